@@ -1,0 +1,151 @@
+-- What an accepted policy is sure to have: each assertion fits, is safe, and has the parameters that its verbs ask for.
+use mathlib.Core.Path.{_≡_, refl, sym, ap, subst, _∙_}
+use mathlib.Core.Logic.{_⊎_, inl, inr, ⊎-elim}
+use mathlib.Core.List.{List, [], _∷_, _++_, map, List·Memᴰ, List·Memᴰ·head, List·Memᴰ·not-nil, List·Memᴰ·eq-of-singleton, List·Memᴰ·append-cases, map-append, Memᴰ·cast}
+use mathlib.Core.Bool.{Bool, true, false, not}
+use Prim.Native.Nat.{ℕ, zero, suc, _+_, _<_, _≤_}
+use native.Mathlib.Decide.{decLt}
+use native.Mathlib.Omega.{arith}
+use lib.ListN.{length, getD, length-map, List·getD-eq-default}
+use lib.Dec.{T, eqb, eqb→eq}
+use Rattle.model.specs.Limits.{principal}
+use Rattle.model.specs.Lists.{all, product}
+use Rattle.model.specs.Syntax.{Expr, con, var, today, Fact, flat, canSay, subject, Assertion, Constant, Verb, Policy}
+use Rattle.model.specs.Kinds.{Demands, kindAt, places, demandsOf, kindUnder, inPlace, comparable, meets, kindsFor, choicesOf, fitting, fitsAssertion, variables}
+use Rattle.model.specs.Safety.{safeAssertion}
+use Rattle.model.specs.Bytes.{choose, Reading, got, refused, andThen}
+use Rattle.model.specs.Readings.{arityOf, exprsAt, exprAt, levelsAt, factAt, assertionAt}
+use Rattle.model.specs.Forms.{Form, ends, broken, noVerb, assertionForm}
+use Rattle.model.specs.Policies.{Item, contents, headed, ended, itemsFrom, listAt, judged, assertionBy, assertionItem, Accepted, policyOf, assertionsFrom, verbsFrom, constantsFrom, readPolicy}
+use Rattle.model.proofs.ListFacts.{and-of, any-of, all-of}
+use Rattle.model.proofs.BindingFacts.{picks-of}
+use Rattle.model.proofs.RecordFacts.{Arity}
+use Rattle.model.proofs.Inside.{Placed}
+
+-- ---- what must have been read before
+
+module _ {A : Type 0} where
+  pub never : (n p e : ℕ) (x : A) → _≡_ {A = Reading A} (refused n p) (got x e) → ⊥
+  never n p e x h = let z : _≡_ {A = ℕ} 0 1 = cc in omega arith
+
+  -- a test that refuses where it fails, and one that refuses where it passes
+  pub choose-yes : (b : Bool) (r : Reading A) (n p : ℕ) (x : A) (e : ℕ) → choose b r (refused n p) ≡ got x e → T b × (r ≡ got x e)
+  unfolding choose
+  choose-yes true r n p x e h = (tt, h)
+  choose-yes false r n p x e h = absurd (never n p e x h)
+
+  pub choose-no : (b : Bool) (r : Reading A) (n p : ℕ) (x : A) (e : ℕ) → choose b (refused n p) r ≡ got x e → T (not b) × (r ≡ got x e)
+  unfolding choose
+  choose-no true r n p x e h = absurd (never n p e x h)
+  choose-no false r n p x e h = (tt, h)
+
+pub andThen-got : {A B : Type 0} (r : Reading A) (f : A → ℕ → Reading B) (y : B) (e : ℕ) → andThen r f ≡ got y e → (x : A) × (p : ℕ) × (r ≡ got x p) × (f x p ≡ got y e)
+unfolding andThen
+andThen-got (got x p) f y e h = (x, p, refl, h)
+andThen-got (refused n p) f y e h = absurd (never n p e y h)
+
+-- ---- what each item of a list has
+
+module _ {A : Type 0} (f : List A → ℕ → Reading A) (Q : A → Type 0) (sound : (before : List A) (p : ℕ) (x : A) (e : ℕ) → f before p ≡ got x e → Q x) where
+  abbrev Each : List (Item A) → Type 0
+  Each is = (x : A) → List·Memᴰ x (contents is) → Q x
+
+  snoc : (is : List (Item A)) (i : Item A) → Each is → Q (i .of) → Each (is ++ i ∷ [])
+  snoc is i h q x m =
+      ⊎-elim (h x) (λ k. subst Q (sym (List·Memᴰ·eq-of-singleton k)) q)
+      (List·Memᴰ·append-cases (contents is) (subst (λ (l : List A). List·Memᴰ x l) (map-append (λ (i : Item A). i .of) is (i ∷ [])) m))
+
+  items-each : (n : ℕ) (is : List (Item A)) (p : ℕ) (js : List (Item A)) (e : ℕ) → Each is → itemsFrom f n is p ≡ got js e → Each js
+  unfolding itemsFrom
+  items-each zero is p js e h r = subst Each (let q : is ≡ js = cc in q) h
+  items-each (suc n) is p js e h r =
+      let g = andThen-got (f (contents is) p) (λ x e. itemsFrom f n (is ++ record { at = p; of = x } ∷ []) e) js e r in
+      items-each n (is ++ record { at = p; of = g .0 } ∷ []) (g .1) js e (snoc is (record { at = p; of = g .0 }) h (sound (contents is) p (g .0) (g .1) (g .2))) (g .3)
+
+  pub list-each : (s : List ℕ) (lowest highest p : ℕ) (js : List (Item A)) (e : ℕ) → listAt s lowest highest f p ≡ got js e → Each js
+  unfolding listAt
+  list-each s lowest highest p js e r =
+      let a = choose-no _ _ 3 p js e r in
+      let b = choose-no _ _ 3 p js e (a .1) in
+      let c = choose-no _ _ 3 p js e (b .1) in
+      items-each _ [] _ js e (λ x m. absurd (List·Memᴰ·not-nil m)) (c .1)
+
+-- ---- assertions
+
+pub record Fine (cs : List Constant) (vs : List Verb) (a : Assertion) : Type 0 where
+  pub fit : T (fitsAssertion cs vs a)
+  pub safe : T (safeAssertion a)
+  pub arity : Arity vs (a .head)
+
+exprs-length : (n : ℕ) (s : List ℕ) (p : ℕ) → length (exprsAt n s p) ≡ n
+unfolding exprsAt
+exprs-length zero s p = refl
+exprs-length (suc n) s p = ap suc (exprs-length n s (p + 2))
+
+levels-arity : (vs : List Verb) (m : ℕ) (s : List ℕ) (p : ℕ) → Arity vs (levelsAt vs m s p)
+unfolding levelsAt arityOf
+levels-arity vs zero s p = exprs-length _ s (p + 3)
+levels-arity vs (suc m) s p = levels-arity vs m s (p + 3)
+
+head-arity : (vs : List Verb) (s : List ℕ) (at : ℕ) → Arity vs (assertionAt vs s at .head)
+unfolding assertionAt factAt
+head-arity vs s at = levels-arity vs _ s _
+
+item-fine : (cs : List Constant) (vs : List Verb) (s : List ℕ) (before : List Assertion) (at : ℕ) (a : Assertion) (e : ℕ) → assertionItem cs vs s before at ≡ got a e → Fine cs vs a
+unfolding assertionItem assertionBy judged
+item-fine cs vs s before at a e r = go (assertionForm vs s at) r
+  where
+    go : (φ : Form) → assertionBy φ cs vs (assertionAt vs s at) at ≡ got a e → Fine cs vs a
+    go (ends q) h =
+        let b = choose-yes _ _ 5 at a e h in
+        let c = choose-yes _ _ 6 at a e (b .1) in
+        subst (Fine cs vs) (let k : assertionAt vs s at ≡ a = let w = c .1 in cc in k) (record { fit = b .0; safe = c .0; arity = head-arity vs s at })
+    go broken h = absurd (never 3 at e a h)
+    go noVerb h = absurd (never 5 at e a h)
+
+module _ {A : Type 0} where
+  headed-got : (s : List ℕ) (r : Reading A) (x : A) (e : ℕ) → headed s r ≡ got x e → r ≡ got x e
+  unfolding headed
+  headed-got s r x e h = choose-yes _ _ 2 1 x e (choose-yes _ _ 1 0 x e h .1) .1
+
+  ended-got : (s : List ℕ) (x y : A) (p e : ℕ) → ended s x p ≡ got y e → x ≡ y
+  unfolding ended
+  ended-got s x y p e h = let w = choose-yes _ _ 3 p y e h .1 in cc
+
+-- each assertion of an accepted policy
+pub accepted-fine : (s : List ℕ) (A : Accepted) (e : ℕ) → readPolicy s ≡ got A e
+    → (a : Assertion) → List·Memᴰ a (policyOf A .assertions) → Fine (policyOf A .constants) (policyOf A .verbs) a
+unfolding readPolicy constantsFrom verbsFrom assertionsFrom
+accepted-fine s A e r =
+    let c = andThen-got _ _ A e (headed-got s _ A e r) in
+    let v = andThen-got _ _ A e (c .3) in
+    let a = andThen-got _ _ A e (v .3) in
+    let q = ended-got s _ A (a .1) e (a .3) in
+    subst (λ (B : Accepted). (x : Assertion) → List·Memᴰ x (policyOf B .assertions) → Fine (policyOf B .constants) (policyOf B .verbs) x) q
+    (list-each (assertionItem (contents (c .0)) (contents (v .0)) s) (Fine (contents (c .0)) (contents (v .0))) (item-fine (contents (c .0)) (contents (v .0)) s) s 0 _ (v .1) (a .0) (a .1) (a .2))
+
+-- ---- what a fitting head has: its subject is a constant or a variable of the eight
+
+choice-length : (D : Demands) (κ : List ℕ) → List·Memᴰ κ (choicesOf D) → length κ ≡ 8
+choice-length D κ m = picks-of (kindsFor D) 0 variables κ m .0
+
+placed : (cs : List Constant) (κ : List ℕ) (e : Expr) → length κ ≡ 8 → T (inPlace cs κ (principal, e)) → Placed e
+placed cs κ (con c) l t = tt
+placed cs κ (var v) l t = go (decLt v 8)
+  where
+    go : Dec (v < 8) → v < 8
+    go (yes h) = h
+    go (no h) = absurd (let z : getD κ v 0 ≡ 1 = eqb→eq (getD κ v 0) 1 t in let w : getD κ v 0 ≡ 0 = List·getD-eq-default κ 0 (let q : 8 ≤ v = omega arith in rw l q) in omega arith)
+placed cs κ today l t = absurd t
+
+subject-first : (cs : List Constant) (vs : List Verb) (κ : List ℕ) (f : Fact Expr) (ps : List (ℕ × Expr)) → T (all (inPlace cs κ) (places vs f ++ ps)) → T (inPlace cs κ (principal, subject f))
+subject-first cs vs κ (flat s v es) ps t = and-of (inPlace cs κ (principal, s)) _ t .0
+subject-first cs vs κ (canSay s d f) ps t = and-of (inPlace cs κ (principal, s)) _ t .0
+
+pub subject-placed : (cs : List Constant) (vs : List Verb) (a : Assertion) → T (fitsAssertion cs vs a) → Placed (subject (a .head))
+subject-placed cs vs a t =
+    let D = demandsOf vs a in
+    let r = any-of (meets cs D) (choicesOf D) (and-of (eqb (kindAt cs (a .issuer)) principal) (fitting cs D) t .1) in
+    let κ = r .0 in
+    let m = and-of (all (inPlace cs κ) (D .places)) (all (comparable cs κ) (D .tests)) (r .2) in
+    placed cs κ (subject (a .head)) (choice-length D κ (r .1)) (subject-first cs vs κ (a .head) _ (m .0))

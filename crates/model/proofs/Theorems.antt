@@ -1,0 +1,240 @@
+-- The proofs of `specs/Theorems.antt`, each under its statement's name in small letters.
+use mathlib.Core.Path.{_≡_, refl, sym, ap, subst, subst₂, _∙_}
+use mathlib.Core.Logic.{_↔_, _⊎_, inl, inr, ⊎-elim}
+use mathlib.Core.List.{List, [], _∷_, map, List·Memᴰ, List·Memᴰ·head, List·Memᴰ·tail, List·Memᴰ·not-nil, tail-eq-of-cons-eq}
+use mathlib.Core.Bool.{Bool, true, false, cond}
+use Prim.Native.Nat.{ℕ, zero, suc, _≤_, _<_}
+use native.Mathlib.Omega.{arith}
+use lib.ListN.{length, getD}
+use lib.Dec.{T, eqb, eqb→eq}
+use Rattle.model.specs.Limits.{answerBytes}
+use Rattle.model.specs.Lists.{all, any, keep, each}
+use Rattle.model.specs.Syntax.{Expr, con, var, today, Assertion, Constant, Policy, Request, Node, World, worldOf, Said, said, subject}
+use Rattle.model.specs.Kinds.{Demands, inPlace, comparable, meets, kindOf, isVar, variables}
+use Rattle.model.specs.Values.{choices}
+use Rattle.model.specs.Closure.{Derives, First}
+use Rattle.model.specs.Rules.{Rule}
+use Rattle.model.specs.Requests.{issuers, kindsIn, freeKinds, bindingsIn}
+use Rattle.model.specs.Records.{Entry, keyOf, recordOf, answersBytes}
+use Rattle.model.specs.Meant.{Outcome, tooManyFacts, tooManyAnswers, decided, MoreThan, AtMost, Enumerates, Derivable, FirstIn, Satisfies, itself, Meant, fullTable, fullAnswers, allListed}
+use Rattle.model.specs.Steps.{eqSaid, step}
+use Rattle.model.specs.Reached.{issuedIn, reach, counting}
+use Rattle.model.specs.Deciding.{outcome, decide, countingIn}
+use Rattle.model.specs.Bytes.{Reading, got}
+use Rattle.model.specs.Policies.{Accepted, policyOf}
+use Rattle.model.specs.Nodes.{readRequest}
+use Rattle.model.specs.Decision.{Verdict, allow, deny, refusal, Report, capacity, room, filled, word, reported, decision}
+use Rattle.model.specs.Theorems as Q
+use Rattle.model.specs.Theorems.{Inputs, ReadAs, Longer, Adds, IsDecision, ListedIn, answerIn, DerivableIn, EntryIn, AnswerIn, MeantBy}
+use Rattle.model.proofs.ListFacts.{and-of, all-of, keep-of, keep-in, member-of, member-in}
+use Rattle.model.proofs.ClosureFacts.{derives↔within, derives-more}
+use Rattle.model.proofs.RoundFacts as S
+use Rattle.model.proofs.BindingFacts.{bindings-of}
+use Rattle.model.proofs.StepFacts.{eqSaid-of, eqSaid-refl, step-of, step-in}
+use Rattle.model.proofs.ReachFacts.{reach-of, reach-in, reach↔}
+use Rattle.model.proofs.RecordFacts.{Arity, fits, same-key}
+use Rattle.model.proofs.OutcomeFacts.{clash, meant-unique, meant, same-entry}
+use Rattle.model.proofs.Outside.{counting-same}
+use Rattle.model.proofs.Inside.{inside}
+use Rattle.model.proofs.Growth.{holds-more, rule-grows}
+use Rattle.model.proofs.ReadFacts.{Fine, accepted-fine, subject-placed}
+use Rattle.model.proofs.KindFacts.{fitting↔, one-kind}
+use Rattle.model.proofs.DecisionFacts.{reports, rounds-facts, answer-at, getD-in, in-getD}
+
+-- ---- 1
+
+pub rulesAreRounds : Q.RulesAreRounds
+rulesAreRounds W 𝒜 x = derives↔within (Rule W 𝒜) x
+
+pub computedRounds : Q.ComputedRounds
+computedRounds W 𝒜 n x = S.round↔ eqSaid (step W 𝒜) (Rule W 𝒜) eqSaid-of eqSaid-refl (step-of W 𝒜) (step-in W 𝒜) n x
+
+pub tableEntries : Q.TableEntries
+tableEntries W 𝒜 c h r x = (
+  S.table-of eqSaid (step W 𝒜) (Rule W 𝒜) eqSaid-of eqSaid-refl (step-of W 𝒜) (step-in W 𝒜) c r x,
+  S.table-first eqSaid (step W 𝒜) (Rule W 𝒜) eqSaid-of eqSaid-refl (step-of W 𝒜) (step-in W 𝒜) c h r x,
+)
+
+pub roundsAtMostFacts : Q.RoundsAtMostFacts
+roundsAtMostFacts = rounds-facts
+
+-- ---- 2
+
+-- the assertions of an accepted policy, and those of them that count
+policy-fine : (policy : List ℕ) (P : Policy) → ReadAs policy P → (a : Assertion) → List·Memᴰ a (P .assertions) → Fine (P .constants) (P .verbs) a
+policy-fine policy P h = subst (λ (P : Policy). (a : Assertion) → List·Memᴰ a (P .assertions) → Fine (P .constants) (P .verbs) a) (h .3) (accepted-fine policy (h .0) (h .1) (h .2))
+
+module _ (policy request : List ℕ) (P : Policy) (q : Request) (h : Inputs policy request P q) where
+  counting-arity : (a : Assertion) → List·Memᴰ a (countingIn P q) → Arity (P .verbs) (a .head)
+  counting-arity a m = policy-fine policy P (h .readAs) a (keep-of (issuedIn (reach (worldOf P q) (P .assertions) (issuers (q .node) (worldOf P q)))) (P .assertions) m .0) .arity
+
+  meant-by : (c r : ℕ) → MeantBy P q c r (decide P q c r)
+  meant-by c r = meant (worldOf P q) (countingIn P q) (q .node) c r counting-arity
+
+pub meaning : Q.Meaning
+meaning policy request facts answers P q h = (
+  decide P q (capacity facts) (room answers),
+  reports policy request facts answers P q h,
+  meant-by policy request P q h (capacity facts) (room answers),
+  λ o m. meant-unique (worldOf P q) (countingIn P q) (q .node) (capacity facts) (room answers) o _ m (meant-by policy request P q h (capacity facts) (room answers)),
+)
+
+-- verdicts differ
+word-refusal : (A : List (List ℕ)) (n s p : ℕ) → word A ≡ refusal n s p → ⊥
+word-refusal [] n s p e = let z : _≡_ {A = ℕ} 0 1 = cc in omega arith
+word-refusal (θ ∷ A) n s p e = let z : _≡_ {A = ℕ} 0 1 = cc in omega arith
+
+apart : (n m s p : ℕ) → n < m → refusal n s p ≡ refusal m s p → ⊥
+apart n m s p h e = let z : n ≡ m = cc in omega arith
+
+module _ (W : World) (𝒜 : List Assertion) (n : Node) (c r : ℕ) (facts answers : List ℕ) where
+  eight↔ : {o : Outcome} → Meant W 𝒜 n c r o → (reported o facts answers .verdict ≡ refusal 8 0 0) ↔ MoreThan c (Derivable W 𝒜 n)
+  eight↔ (fullTable m) = (λ e. m, λ k. refl)
+  eight↔ (fullAnswers a F m) = (λ e. absurd (apart 8 9 0 0 (omega arith) (sym e)), λ k. absurd (clash c (Derivable W 𝒜 n) k a))
+  eight↔ (allListed {A = A} a F b G) = (λ e. absurd (word-refusal A 8 0 0 e), λ k. absurd (clash c (Derivable W 𝒜 n) k a))
+
+  nine↔ : {o : Outcome} → Meant W 𝒜 n c r o → (reported o facts answers .verdict ≡ refusal 9 0 0) ↔ (AtMost c (Derivable W 𝒜 n) × MoreThan r (Satisfies W 𝒜 n))
+  nine↔ (fullTable m) = (λ e. absurd (apart 8 9 0 0 (omega arith) e), λ k. absurd (clash c (Derivable W 𝒜 n) m (k .0)))
+  nine↔ (fullAnswers a F m) = (λ e. (a, m), λ k. refl)
+  nine↔ (allListed {A = A} a F b G) = (λ e. absurd (word-refusal A 9 0 0 e), λ k. absurd (clash r (Satisfies W 𝒜 n) (k .1) b))
+
+  -- there is room for all
+  decided-as : {o : Outcome} → Meant W 𝒜 n c r o → AtMost c (Derivable W 𝒜 n) → AtMost r (Satisfies W 𝒜 n)
+      → (F : List Entry) × (A : List (List ℕ)) × Enumerates keyOf (FirstIn W 𝒜 n) F × Enumerates itself (Satisfies W 𝒜 n) A × (o ≡ decided F A)
+  decided-as (fullTable m) a b = absurd (clash c (Derivable W 𝒜 n) m a)
+  decided-as (fullAnswers k F m) a b = absurd (clash r (Satisfies W 𝒜 n) m b)
+  decided-as (allListed {F} {A} k f l g) a b = (F, A, f, g, refl)
+
+pub eight : Q.Eight
+eight policy request facts answers P q h =
+    rw (reports policy request facts answers P q h)
+    (eight↔ (worldOf P q) (countingIn P q) (q .node) (capacity facts) (room answers) facts answers (meant-by policy request P q h (capacity facts) (room answers)))
+
+pub nine : Q.Nine
+nine policy request facts answers P q h =
+    rw (reports policy request facts answers P q h)
+    (nine↔ (worldOf P q) (countingIn P q) (q .node) (capacity facts) (room answers) facts answers (meant-by policy request P q h (capacity facts) (room answers)))
+
+pub decides : Q.Decides
+decides policy request facts answers P q h a b =
+    let d = decided-as (worldOf P q) (countingIn P q) (q .node) (capacity facts) (room answers) facts answers (meant-by policy request P q h (capacity facts) (room answers)) a b in
+    (d .0, d .1, d .2, d .3, reports policy request facts answers P q h ∙ ap (λ (o : Outcome). reported o facts answers) (d .4))
+
+allow↔ : {X : List ℕ → Type 0} (A : List (List ℕ)) → Enumerates itself X A → ((word A ≡ allow) ↔ ((θ : List ℕ) × X θ)) × ((word A ≡ deny) ↔ (¬ ((θ : List ℕ) × X θ)))
+allow↔ [] e = (
+  (λ k. absurd (let z : _≡_ {A = ℕ} 0 1 = cc in omega arith), λ k. absurd (List·Memᴰ·not-nil (e .every (k .0) (k .1)))),
+  (λ k m. List·Memᴰ·not-nil (e .every (m .0) (m .1)), λ k. refl),
+)
+allow↔ (θ ∷ A) e = (
+  (λ k. (θ, e .only θ (List·Memᴰ·head refl)), λ k. refl),
+  (λ k. absurd (let z : _≡_ {A = ℕ} 0 1 = cc in omega arith), λ k. absurd (k (θ, e .only θ (List·Memᴰ·head refl)))),
+)
+
+pub allows : Q.Allows
+allows policy request facts answers P q h a b =
+    let d = decides policy request facts answers P q h a b in
+    rw (d .4) (allow↔ (d .1) (d .3))
+
+pub recordsTell : Q.RecordsTell
+recordsTell policy request P q h e e′ f g r =
+    same-entry W 𝒜 (q .node) 0 0 k e e′ f g (same-key W 𝒜 k (e .1) (e′ .1) (fits W 𝒜 k (e .1) (derived e f)) (fits W 𝒜 k (e′ .1) (derived e′ g)) (tail-eq-of-cons-eq (tail-eq-of-cons-eq r)))
+  where
+    W : World
+    W = worldOf P q
+
+    𝒜 : List Assertion
+    𝒜 = countingIn P q
+
+    k : (a : Assertion) → List·Memᴰ a 𝒜 → Arity (W .verbs) (a .head)
+    k = counting-arity policy request P q h
+
+    derived : (e : Entry) → First (Rule W 𝒜) (e .0) (e .1) → Derives (Rule W 𝒜) (e .1)
+    derived e f = S.first→derives eqSaid (step W 𝒜) (Rule W 𝒜) eqSaid-of eqSaid-refl (step-of W 𝒜) (step-in W 𝒜) (e .0) (e .1) f
+
+-- ---- 3
+
+pub computedReach : Q.ComputedReach
+computedReach W 𝒜 asked = (
+  reach↔ W 𝒜 asked,
+  λ a. (
+    λ m. let k = keep-of (issuedIn (reach W 𝒜 asked)) 𝒜 m in (k .0, reach-of W 𝒜 asked (a .issuer) (member-of (a .issuer) (reach W 𝒜 asked) (k .1))),
+    λ m. keep-in (issuedIn (reach W 𝒜 asked)) (m .0) (member-in (reach-in W 𝒜 asked (a .issuer) (m .1))),
+  ),
+)
+
+-- ---- 4
+
+-- the longer policy's world and request are the shorter's
+longer-inputs : {X : Assertion → Type 0} (policy longer request : List ℕ) (P L : Policy) (q : Request) → Inputs policy request P q → ReadAs longer L → Longer X P L → Inputs longer request L q
+longer-inputs policy longer request P L q h l x = record {
+  readAs = l;
+  askedAs = (h .askedAs .0, rw (x .constants, x .verbs) (h .askedAs .1));
+}
+
+longer-world : {X : Assertion → Type 0} (P L : Policy) (q : Request) → Longer X P L → worldOf L q ≡ worldOf P q
+longer-world P L q x = λ i. record { constants = x .constants i; verbs = x .verbs i; today = q .today }
+
+longer-counts : {X : Assertion → Type 0} (P L : Policy) (q : Request) (x : Longer X P L) → countingIn L q ≡ counting (worldOf P q) (L .assertions) (issuers (q .node) (worldOf P q))
+longer-counts P L q x = ap (λ (W : World). counting W (L .assertions) (issuers (q .node) W)) (longer-world P L q x)
+
+pub outsiders : Q.Outsiders
+outsiders policy longer request facts answers P L q h l x =
+    reports longer request facts answers L q (longer-inputs policy longer request P L q h l x)
+    ∙ (ap (λ (o : Outcome). reported o facts answers) same ∙ sym (reports policy request facts answers P q h))
+  where
+    W : World
+    W = worldOf P q
+
+    counts : countingIn L q ≡ countingIn P q
+    counts = longer-counts P L q x ∙ counting-same W (issuers (q .node) W) (P .assertions) (L .assertions) (x .assertions)
+
+    same : decide L q (capacity facts) (room answers) ≡ decide P q (capacity facts) (room answers)
+    same = λ i. outcome (longer-world P L q x i) (counts i) (q .node) (capacity facts) (room answers)
+
+pub insiders : Q.Insiders
+insiders policy request P q h n x r =
+    inside (worldOf P q) (issuers (q .node) (worldOf P q)) (P .assertions)
+    (λ a m. subject-placed (P .constants) (P .verbs) a (policy-fine policy P (h .readAs) a m .fit)) n x r
+
+-- the answers of a decision are those that its buffer lists
+binding-length : (W : World) (n : Node) (θ : List ℕ) → List·Memᴰ θ (bindingsIn W n) → length θ ≡ answerBytes
+binding-length W n θ m = bindings-of (W .constants) (freeKinds W n) θ m .0
+
+module _ (W : World) (𝒜 : List Assertion) (n : Node) (c r : ℕ) (facts answers : List ℕ) where
+  -- listed ↔ satisfying, where there is a decision
+  listed↔ : {o : Outcome} → Meant W 𝒜 n c r o → IsDecision (reported o facts answers .verdict) → (θ : List ℕ) → ListedIn (reported o facts answers) θ ↔ Satisfies W 𝒜 n θ
+  listed↔ (fullTable m) k θ = absurd k
+  listed↔ (fullAnswers a f m) k θ = absurd k
+  listed↔ (allListed {F} {A} a f b g) k θ = (
+    λ l. g .only θ (subst (λ (η : List ℕ). List·Memᴰ η A) (sym (at (l .0) (l .1)) ∙ l .2) (getD-in [] A (l .0) (l .1))),
+    λ s. let m = in-getD [] (g .every θ s) in (m .0, m .1, at (m .0) (m .1) ∙ m .2),
+  )
+    where
+      at : (i : ℕ) → i < length A → answerIn (filled answers (answersBytes A)) i ≡ getD A i []
+      at i l = answer-at A _ (λ η m. binding-length W n η (g .only η m .0)) i l
+
+pub growing : Q.Growing
+growing policy longer request facts answers P L q h l x p d d′ θ k =
+    let W = worldOf P q in
+    let asked = issuers (q .node) W in
+    let i = longer-inputs policy longer request P L q h l x in
+    let e = reports policy request facts answers P q h in
+    let e′ = reports longer request facts answers L q i in
+    let now = listed↔ (worldOf L q) (countingIn L q) (q .node) (capacity facts) (room answers) facts answers (meant-by longer request L q i (capacity facts) (room answers)) (subst (λ (r : Report). IsDecision (r .verdict)) e′ d′) θ in
+    let then = listed↔ W (countingIn P q) (q .node) (capacity facts) (room answers) facts answers (meant-by policy request P q h (capacity facts) (room answers)) (subst (λ (r : Report). IsDecision (r .verdict)) e d) θ in
+    let s = then .0 (subst (λ (r : Report). ListedIn r θ) e k) in
+    let s′ : Satisfies W (counting W (L .assertions) asked) (q .node) θ = (
+      s .0,
+      holds-more W (kindsIn W (q .node)) (Derives (Rule W (countingIn P q))) (Derives (Rule W (counting W (L .assertions) asked)))
+          (λ y z. derives-more (rule-grows W asked (x .assertions)) z) (q .node) θ p (s .1),
+    ) in
+    subst (λ (r : Report). ListedIn r θ) (sym e′)
+    (now .1 (subst₂ (λ (W : World) (𝒜 : List Assertion). Satisfies W 𝒜 (q .node) θ) (sym (longer-world P L q x)) (sym (longer-counts P L q x)) s′))
+
+-- ---- 5
+
+pub fitting : Q.Fitting
+fitting cs D = fitting↔ cs D
+
+pub oneKind : Q.OneKind
+oneKind cs D κ t v h = one-kind cs κ (D .places) (and-of (all (inPlace cs κ) (D .places)) (all (comparable cs κ) (D .tests)) t .0) v h

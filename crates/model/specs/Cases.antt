@@ -1,0 +1,243 @@
+-- Worked cases on bytes: document 01's belt cases, its four wrong turnings, and some of the ways in which it is read.
+use mathlib.Core.Path.{_≡_}
+use mathlib.Core.List.{List, [], _∷_, _++_, map}
+use Prim.Native.Nat.{ℕ, suc, _/_, _%_}
+use lib.ListN.{length, replicate, set}
+use Rattle.model.specs.Limits.{version, principal, thing, day, unlimited, unbound}
+use Rattle.model.specs.Lists.{each}
+use Rattle.model.specs.Decision.{Verdict, allow, deny, refusal, Report, report, untouched, decision}
+
+-- ---- a row: a call, and what it must report
+
+abbrev pub Row : Type 0
+Row = Report × Report
+
+abbrev pub Agree : List Row → Type 0
+Agree rows = map (λ (r : Row). r .0) rows ≡ map (λ (r : Row). r .1) rows
+
+-- both buffers are lent with every byte 165
+abbrev pub lent : ℕ → List ℕ
+lent n = replicate n 165
+
+abbrev pub call : List ℕ → List ℕ → ℕ → ℕ → Report
+call policy request facts answers = decision policy request (lent facts) (lent answers)
+
+abbrev pub refused : ℕ → ℕ → ℕ → ℕ → ℕ → Report
+refused n side place facts answers = untouched n side place (lent facts) (lent answers)
+
+-- ---- bytes from their parts
+
+abbrev two : ℕ → List ℕ
+two n = n / 256 ∷ n % 256 ∷ []
+
+abbrev file : List ℕ → List ℕ
+file bytes = version ∷ 0 ∷ 0 ∷ two (length bytes) ++ bytes
+
+abbrev list : List (List ℕ) → List ℕ
+list items = two (length items) ++ each items (λ i. i)
+
+abbrev short : List ℕ → List ℕ
+short bytes = length bytes ∷ bytes
+
+abbrev var₀ : List ℕ
+var₀ = two 0x8000
+
+-- "v can say (depth k) f": one level more around a fact
+abbrev canSay : List ℕ → ℕ → List ℕ → List ℕ
+canSay v k [] = []
+canSay v k (nest ∷ f) = suc nest ∷ v ++ k ∷ f
+
+abbrev canActAs : List ℕ → List ℕ → List ℕ
+canActAs a b = 0 ∷ a ++ 0 ∷ b
+
+abbrev isFitter : List ℕ → List ℕ
+isFitter v = 0 ∷ v ++ 1 ∷ []
+
+abbrev mayOrder : List ℕ → List ℕ
+mayOrder v = 0 ∷ v ++ 2 ∷ two 3
+
+abbrev statement : List ℕ → List ℕ → List (List ℕ) → List ℕ
+statement issuer head body =
+    let bytes = 0 ∷ 0 ∷ 0 ∷ 0 ∷ issuer ++ head ++ (length body ∷ each body (λ f. f)) ++ 0 ∷ [] in
+    two (length bytes) ++ bytes
+
+abbrev says : List ℕ → List ℕ → List ℕ
+says issuer fact = 1 ∷ issuer ++ fact
+
+abbrev request : ℕ → List ℕ → List ℕ
+request today node = file (0 ∷ 0 ∷ two today ++ node)
+
+-- ---- "Principals 0 Works, 1 North, 2 Otto; thing 3 encoder; verbs 1 is-fitter (arity 0), 2 may-order (thing)."
+
+abbrev works : List ℕ
+works = two 0
+
+abbrev north : List ℕ
+north = two 1
+
+abbrev otto : List ℕ
+otto = two 2
+
+abbrev policy : List (List ℕ) → List ℕ
+policy statements =
+    file (list (short (principal ∷ 87 ∷ 111 ∷ 114 ∷ 107 ∷ 115 ∷ [])
+    ∷ short (principal ∷ 78 ∷ 111 ∷ 114 ∷ 116 ∷ 104 ∷ [])
+    ∷ short (principal ∷ 79 ∷ 116 ∷ 116 ∷ 111 ∷ [])
+    ∷ short (thing ∷ 101 ∷ 110 ∷ 99 ∷ 111 ∷ 100 ∷ 101 ∷ 114 ∷ [])
+    ∷ [])
+    ++ list (short (0 ∷ 105 ∷ 115 ∷ 45 ∷ 102 ∷ 105 ∷ 116 ∷ 116 ∷ 101 ∷ 114 ∷ [])
+    ∷ short (1 ∷ thing ∷ 109 ∷ 97 ∷ 121 ∷ 45 ∷ 111 ∷ 114 ∷ 100 ∷ 101 ∷ 114 ∷ [])
+    ∷ [])
+    ++ list statements)
+
+-- "(i) Works says North can say, depth 0, v0 is-fitter; (ii) Works says v0 may-order encoder if v0 is-fitter; (iii) North says Otto is-fitter."
+abbrev i : List ℕ
+i = statement works (canSay north 0 (isFitter var₀)) []
+
+abbrev ii : List ℕ
+ii = statement works (mayOrder var₀) (isFitter var₀ ∷ [])
+
+abbrev iii : List ℕ
+iii = statement north (isFitter otto) []
+
+abbrev pub P : List ℕ
+P = policy (i ∷ ii ∷ iii ∷ [])
+
+-- "Works says Otto may-order encoder."
+abbrev asks : List ℕ
+asks = says works (mayOrder otto)
+
+abbrev pub Q : List ℕ
+Q = request 0 asks
+
+-- "Works says v0 may-order encoder, v0 free"
+abbrev whoMay : List ℕ
+whoMay = request 0 (says works (mayOrder var₀))
+
+-- ---- what stands in the buffers
+
+-- round, issuer, depth and "North can say (depth 0) s is-fitter"
+abbrev quote : ℕ → ℕ → ℕ → ℕ → List ℕ
+quote r a d s = 0 ∷ r ∷ a ∷ d ∷ 1 ∷ 1 ∷ 0 ∷ 0 ∷ 0 ∷ 0 ∷ 0 ∷ s ∷ 1 ∷ 0 ∷ 0 ∷ 0 ∷ []
+
+-- round, issuer, depth and "Otto v p"
+abbrev plain : ℕ → ℕ → ℕ → ℕ → ℕ → List ℕ
+plain r a d v p = 0 ∷ r ∷ a ∷ d ∷ 0 ∷ 0 ∷ 0 ∷ 0 ∷ 0 ∷ 0 ∷ 0 ∷ 2 ∷ v ∷ p ∷ 0 ∷ 0 ∷ []
+
+abbrev tenFacts : List ℕ
+tenFacts =
+    quote 1 0 0 0 ++ quote 1 0 0 1 ++ quote 1 0 0 2 ++ plain 2 0 1 1 0 ++ plain 3 0 1 2 3
+    ++ quote 1 0 1 0 ++ quote 1 0 1 1 ++ quote 1 0 1 2 ++ plain 1 1 0 1 0 ++ plain 1 1 1 1 0
+
+abbrev sixFacts : List ℕ
+sixFacts = quote 1 0 0 0 ++ quote 1 0 0 1 ++ quote 1 0 0 2 ++ quote 1 0 1 0 ++ quote 1 0 1 1 ++ quote 1 0 1 2
+
+abbrev closed : List ℕ
+closed = replicate 8 unbound
+
+abbrev zeros : ℕ → List ℕ
+zeros n = replicate n 0
+
+-- ---- "Operator 5": today against the day 100
+
+abbrev days : List ℕ
+days = file (list (short (principal ∷ 87 ∷ []) ∷ short (day ∷ 0 ∷ 0 ∷ 0 ∷ 100 ∷ []) ∷ []) ++ list [] ++ list [])
+
+abbrev inTheYear : ℕ → List ℕ
+inTheYear today = request today (2 ∷ 5 ∷ two 0x4000 ++ two 1)
+
+abbrev pub beltRows : List Row
+beltRows =
+    -- "P, Q: 6 can-say facts and 2 by North, then 1, then 1: 10 facts, 3 rounds."
+    (call P Q 160 8, report allow 10 3 1 tenFacts closed)
+    -- "Capacity 10 decides, 9 gives 8"; and so does 0
+    ∷ (call P Q 159 8, report (refusal 8 0 0) 0 0 0 (zeros 159) (lent 8))
+    ∷ (call P Q 15 8, report (refusal 8 0 0) 0 0 0 (zeros 15) (lent 8))
+    -- "P plus 'Otto says Otto may-order encoder': the same bytes."
+    ∷ (call (policy (i ∷ ii ∷ iii ∷ statement otto (mayOrder otto) [] ∷ [])) Q 160 8, report allow 10 3 1 tenFacts closed)
+    -- "P without (iii): deny, 6 facts, 1 round."
+    ∷ (call (policy (i ∷ ii ∷ [])) Q 160 8, report deny 6 1 0 (sixFacts ++ zeros 64) (zeros 8))
+    -- "No assertions: Q denied, 0 facts; not Q allowed, one answer."
+    ∷ (call (policy []) Q 160 8, report deny 0 0 0 (zeros 160) (zeros 8))
+    ∷ (call (policy []) (request 0 (5 ∷ asks)) 160 8, report allow 0 0 1 (zeros 160) closed)
+    -- "Works says v0 may-order encoder, v0 free: one answer, v0 = 2; answer buffer of 7 bytes: 9."
+    ∷ (call P whoMay 160 8, report allow 10 3 1 tenFacts (2 ∷ replicate 7 unbound))
+    ∷ (call P whoMay 160 7, report (refusal 9 0 0) 10 3 0 tenFacts (zeros 7))
+    -- "Operator 5: differences 365, 0 and -1 hold, 366 does not."
+    ∷ (call days (inTheYear 465) 0 8, report allow 0 0 1 [] closed)
+    ∷ (call days (inTheYear 100) 0 8, report allow 0 0 1 [] closed)
+    ∷ (call days (inTheYear 99) 0 8, report allow 0 0 1 [] closed)
+    ∷ (call days (inTheYear 466) 0 8, report deny 0 0 0 [] (zeros 8))
+    -- "Head 'v0 is-fitter' with no body: 6. A lone not over v0: 7."
+    ∷ (call (policy (i ∷ ii ∷ statement works (isFitter var₀) [] ∷ [])) Q 160 8, refused 6 1 100 160 8)
+    ∷ (call P (request 0 (5 ∷ says works (isFitter var₀))) 160 8, refused 7 2 9 160 8)
+    ∷ []
+
+abbrev pub Belt : Type 0
+Belt = Agree beltRows
+
+-- ---- "Wrong turnings": a case for each, in which it would answer otherwise
+
+pub record Counts : Type 0 where
+  pub verdict : Verdict
+  pub facts : ℕ
+  pub rounds : ℕ
+  pub answers : ℕ
+
+abbrev countsOf : Report → Counts
+countsOf r = record { verdict = r .verdict; facts = r .facts; rounds = r .rounds; answers = r .answers }
+
+abbrev counts : Verdict → ℕ → ℕ → ℕ → Counts
+counts v f r a = record { verdict = v; facts = f; rounds = r; answers = a }
+
+abbrev pub turningRows : List (Counts × Counts)
+turningRows =
+    -- "Letting a depth 0 quote lean on another's quote: North's contractor then vouches to Works."
+    (countsOf (call (policy (i ∷ ii ∷ statement north (canSay otto unlimited (isFitter var₀)) [] ∷ statement otto (isFitter otto) [] ∷ [])) Q 320 8), counts deny 15 2 0)
+    -- "A reach without can-act-as subjects: Otto acting as North can vouch."
+    ∷ (countsOf (call (policy (i ∷ ii ∷ statement works (canActAs otto north) [] ∷ statement otto (isFitter otto) [] ∷ [])) Q 320 8), counts allow 18 4 1)
+    -- "Applying can say by issuer name alone, without matching the fact."
+    ∷ (countsOf (call (policy (statement works (canSay north 0 (mayOrder otto)) [] ∷ iii ∷ [])) Q 160 8), counts deny 4 1 0)
+    -- "Counting a variable as known after an any-of when only one part makes it known."
+    ∷ (countsOf (call P (request 0 (4 ∷ 2 ∷ says works (isFitter var₀) ++ asks)) 160 8), counts (refusal 7 2 9) 0 0 0)
+    ∷ []
+
+abbrev pub Turnings : Type 0
+Turnings = map (λ (r : Counts × Counts). r .0) turningRows ≡ map (λ (r : Counts × Counts). r .1) turningRows
+
+-- ---- how document 01 is read: each refusal number, and its place
+
+abbrev pub readingRows : List Row
+readingRows =
+    -- version and length wrong
+    (call (set (set P 0 2) 4 3) Q 160 8, refused 1 1 0 160 8)
+    -- a policy of one byte
+    ∷ (call (1 ∷ []) Q 160 8, refused 2 1 1 160 8)
+    -- a fourth assertion counted and not there: the place where it would stand
+    ∷ (call (set P 62 4) Q 160 8, refused 3 1 114 160 8)
+    -- an all-of without parts, inside a not
+    ∷ (call P (1 ∷ 0 ∷ 0 ∷ 0 ∷ 7 ∷ 0 ∷ 0 ∷ 0 ∷ 0 ∷ 5 ∷ 3 ∷ 0 ∷ []) 160 8, refused 3 2 10 160 8)
+    -- a node nine deep
+    ∷ (call P (request 0 (5 ∷ 5 ∷ 5 ∷ 5 ∷ 5 ∷ 5 ∷ 5 ∷ 5 ∷ asks)) 160 8, refused 3 2 17 160 8)
+    -- constant 1 alike to constant 0, before a fault in the count of verbs
+    ∷ (call (set (set (set (set P 16 87) 19 107) 20 115) 37 65) Q 160 8, refused 4 1 14 160 8)
+    -- a subject of no class
+    ∷ (call (set (set P 109 128) 110 8) Q 160 8, refused 5 1 100 160 8)
+    -- three constraints, and no choice of kinds from the third on
+    ∷ (call P (request 0 (3 ∷ 3 ∷ 2 ∷ 3 ∷ two 0x8000 ++ two 0x8001 ++ 2 ∷ 1 ∷ two 0x8001 ++ two 0x8002 ++ 2 ∷ 1 ∷ two 0x8002 ++ otto)) 160 8, refused 5 2 23 160 8)
+    -- 5 in a part, 3 in a later part
+    ∷ (call P (1 ∷ 0 ∷ 0 ∷ 0 ∷ 14 ∷ 0 ∷ 0 ∷ 0 ∷ 0 ∷ 3 ∷ 2 ∷ 1 ∷ 0 ∷ 0 ∷ 0 ∷ 0 ∷ 99 ∷ 1 ∷ 7 ∷ []) 160 8, refused 5 2 11 160 8)
+    -- 6 in the policy comes before the request's 1
+    ∷ (call (set (set P 109 128) 110 0) [] 160 8, refused 6 1 100 160 8)
+    -- a not that holds what is not safe by itself
+    ∷ (call P (request 0 (3 ∷ 2 ∷ says works (isFitter var₀) ++ 5 ∷ 6 ∷ 1 ∷ 3 ∷ 2 ∷ 2 ∷ 1 ∷ two 0x8000 ++ two 0x8001 ++ says works (isFitter (two 0x8001)))) 160 8, refused 7 2 9 160 8)
+    -- an exists whose variable is not used
+    ∷ (call P (request 0 (6 ∷ 1 ∷ asks)) 160 8, refused 7 2 9 160 8)
+    -- 8 and 9: 8 comes first
+    ∷ (call P Q 159 0, report (refusal 8 0 0) 0 0 0 (zeros 159) [])
+    -- 9 with odd buffers
+    ∷ (call P Q 167 5, report (refusal 9 0 0) 10 3 0 (tenFacts ++ zeros 7) (zeros 5))
+    ∷ []
+
+abbrev pub Readings : Type 0
+Readings = Agree readingRows

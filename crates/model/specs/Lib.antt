@@ -1,0 +1,32 @@
+-- What the engine means.
+--
+-- Syntax, kinds and values.
+pub mod Limits
+pub mod Lists
+pub mod Syntax
+pub mod Kinds
+pub mod Values
+-- What is true: rules, reach, requests, safety, and the outcome that is meant.
+pub mod Closure
+pub mod Rules
+pub mod Reach
+pub mod Requests
+pub mod Safety
+pub mod Records
+pub mod Meant
+-- What is computed, and proved to be that.
+pub mod Rounds
+pub mod Steps
+pub mod Reached
+pub mod Judging
+pub mod Deciding
+-- Bytes.
+pub mod Bytes
+pub mod Readings
+pub mod Forms
+pub mod Policies
+pub mod Nodes
+pub mod Decision
+-- What is proved.
+pub mod Theorems
+pub mod Cases

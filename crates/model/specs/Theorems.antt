@@ -1,0 +1,198 @@
+-- What is proved of the definitions: each statement as a type. `proofs/Theorems.antt` has a proof of each, under the same name in small letters.
+use mathlib.Core.Path.{_≡_}
+use mathlib.Core.Logic.{_↔_}
+use mathlib.Core.List.{List, [], _∷_, List·Memᴰ}
+use Prim.Native.Nat.{ℕ, _≤_, _<_, _*_}
+use lib.ListN.{length, take, drop, getD}
+use lib.Dec.{T}
+use Rattle.model.specs.Limits.{answerBytes}
+use Rattle.model.specs.Syntax.{Assertion, Constant, Verb, Policy, Request, Node, Nodes, says, test, allOf, anyOf, non, exists, end, more, World, worldOf, Said, said}
+use Rattle.model.specs.Kinds.{Demands, meets, fitting, kinds, variables, kindOf}
+use Rattle.model.specs.Closure.{Derives, Within, First}
+use Rattle.model.specs.Rules.{Rule}
+use Rattle.model.specs.Reach.{Reach}
+use Rattle.model.specs.Requests.{issuers}
+use Rattle.model.specs.Records.{Entry, keyOf, recordOf}
+use Rattle.model.specs.Meant.{Outcome, decided, MoreThan, AtMost, Enumerates, Derivable, FirstIn, Satisfies, itself, Meant}
+use Rattle.model.specs.Rounds.{round, table}
+use Rattle.model.specs.Steps.{eqSaid, step}
+use Rattle.model.specs.Reached.{reach, counting}
+use Rattle.model.specs.Deciding.{countingIn}
+use Rattle.model.specs.Bytes.{Reading, got}
+use Rattle.model.specs.Policies.{Accepted, policyOf, readPolicy}
+use Rattle.model.specs.Nodes.{readRequest}
+use Rattle.model.specs.Decision.{Verdict, allow, deny, refusal, Report, capacity, room, reported, decision}
+
+-- ---- 1. rules and rounds
+
+-- what the rules derive is what some round holds
+abbrev pub RulesAreRounds : Type 0
+RulesAreRounds = (W : World) (𝒜 : List Assertion) (x : Said) → Derives (Rule W 𝒜) x ↔ ((n : ℕ) × Within (Rule W 𝒜) n x)
+
+-- a computed round holds exactly what is derivable within it
+abbrev pub ComputedRounds : Type 0
+ComputedRounds = (W : World) (𝒜 : List Assertion) (n : ℕ) (x : Said) → List·Memᴰ x (round eqSaid (step W 𝒜) n) ↔ Within (Rule W 𝒜) n x
+
+-- in a table within its capacity (round, statement) stands exactly if that is the statement's first round
+abbrev pub TableEntries : Type 0
+TableEntries = (W : World) (𝒜 : List Assertion) (c : ℕ) → length (table eqSaid (step W 𝒜) c) ≤ c
+    → (r : ℕ) (x : Said) → List·Memᴰ (r, x) (table eqSaid (step W 𝒜) c) ↔ First (Rule W 𝒜) r x
+
+-- "Rounds reported: the last round that adds a fact, so never more than the facts", whatever the bytes
+abbrev pub RoundsAtMostFacts : Type 0
+RoundsAtMostFacts = (policy request facts answers : List ℕ) → decision policy request facts answers .rounds ≤ decision policy request facts answers .facts
+
+-- ---- 2. the outcome, over bytes. "Accepted: no refusal from the input stands against it."
+
+abbrev pub ReadAs : List ℕ → Policy → Type 0
+ReadAs policy P = (A : Accepted) × (e : ℕ) × (readPolicy policy ≡ got A e) × (policyOf A ≡ P)
+
+abbrev pub AskedAs : Policy → List ℕ → Request → Type 0
+AskedAs P request q = (e : ℕ) × (readRequest (P .constants) (P .verbs) request ≡ got q e)
+
+-- an accepted policy and request, with their bytes
+pub record Inputs (policy request : List ℕ) (P : Policy) (q : Request) : Type 0 where
+  pub readAs : ReadAs policy P
+  pub askedAs : AskedAs P request q
+
+-- what the request's reach derives, the entries of its table, and its answers
+abbrev pub DerivableIn : Policy → Request → Said → Type 0
+DerivableIn P q = Derivable (worldOf P q) (countingIn P q) (q .node)
+
+abbrev pub EntryIn : Policy → Request → Entry → Type 0
+EntryIn P q = FirstIn (worldOf P q) (countingIn P q) (q .node)
+
+abbrev pub AnswerIn : Policy → Request → List ℕ → Type 0
+AnswerIn P q = Satisfies (worldOf P q) (countingIn P q) (q .node)
+
+abbrev pub MeantBy : Policy → Request → ℕ → ℕ → Outcome → Type 0
+MeantBy P q = Meant (worldOf P q) (countingIn P q) (q .node)
+
+-- the decision reports an outcome that is meant, and no other outcome is
+abbrev pub Meaning : Type 0
+Meaning = (policy request facts answers : List ℕ) (P : Policy) (q : Request) → Inputs policy request P q
+    → (o : Outcome) × (decision policy request facts answers ≡ reported o facts answers) × MeantBy P q (capacity facts) (room answers) o
+    × ((o′ : Outcome) → MeantBy P q (capacity facts) (room answers) o′ → o′ ≡ o)
+
+-- 8 exactly if more statements are derivable than the capacity
+abbrev pub Eight : Type 0
+Eight = (policy request facts answers : List ℕ) (P : Policy) (q : Request) → Inputs policy request P q
+    → (decision policy request facts answers .verdict ≡ refusal 8 0 0) ↔ MoreThan (capacity facts) (DerivableIn P q)
+
+-- 9 exactly if not 8 and more bindings satisfy than there is room for
+abbrev pub Nine : Type 0
+Nine = (policy request facts answers : List ℕ) (P : Policy) (q : Request) → Inputs policy request P q
+    → (decision policy request facts answers .verdict ≡ refusal 9 0 0)
+    ↔ (AtMost (capacity facts) (DerivableIn P q) × MoreThan (room answers) (AnswerIn P q))
+
+-- otherwise the records are exactly the derivable statements with their first rounds, ascending, once each, and the answers exactly the satisfying bindings, ascending, once each
+abbrev pub Decides : Type 0
+Decides = (policy request facts answers : List ℕ) (P : Policy) (q : Request) → Inputs policy request P q
+    → AtMost (capacity facts) (DerivableIn P q) → AtMost (room answers) (AnswerIn P q)
+    → (F : List Entry) × (A : List (List ℕ)) × Enumerates keyOf (EntryIn P q) F × Enumerates itself (AnswerIn P q) A
+    × (decision policy request facts answers ≡ reported (decided F A) facts answers)
+
+-- then allow exactly if some binding satisfies, deny exactly if none does
+abbrev pub Allows : Type 0
+Allows = (policy request facts answers : List ℕ) (P : Policy) (q : Request) → Inputs policy request P q
+    → AtMost (capacity facts) (DerivableIn P q) → AtMost (room answers) (AnswerIn P q)
+    → ((decision policy request facts answers .verdict ≡ allow) ↔ ((θ : List ℕ) × AnswerIn P q θ))
+    × ((decision policy request facts answers .verdict ≡ deny) ↔ (¬ ((θ : List ℕ) × AnswerIn P q θ)))
+
+-- a record's bytes tell which statement and round it is of
+abbrev pub RecordsTell : Type 0
+RecordsTell = (policy request : List ℕ) (P : Policy) (q : Request) → Inputs policy request P q
+    → (e e′ : Entry) → EntryIn P q e → EntryIn P q e′ → recordOf e ≡ recordOf e′ → e ≡ e′
+
+-- ---- 3. the reach
+
+-- the computed reach is the least set, and the assertions that count are those issued in it
+abbrev pub ComputedReach : Type 0
+ComputedReach = (W : World) (𝒜 : List Assertion) (asked : List ℕ)
+    → ((p : ℕ) → List·Memᴰ p (reach W 𝒜 asked) ↔ Reach W 𝒜 asked p)
+    × ((a : Assertion) → List·Memᴰ a (counting W 𝒜 asked) ↔ (List·Memᴰ a 𝒜 × Reach W 𝒜 asked (a .issuer)))
+
+-- ---- 4. added assertions (demand 3; obligation e)
+
+-- `Adds Q 𝒜 ℬ`: "With the added assertions taken out, wherever they stand, the longer policy's list is the shorter's, unchanged and in its order"; each added one has Q
+pub data Adds (Q : Assertion → Type 0) : List Assertion → List Assertion → Type 0 where
+  done : Adds Q [] []
+  keeps : (a : Assertion) {𝒜 ℬ : List Assertion} → Adds Q 𝒜 ℬ → Adds Q (a ∷ 𝒜) (a ∷ ℬ)
+  adds : {a : Assertion} {𝒜 ℬ : List Assertion} → Q a → Adds Q 𝒜 ℬ → Adds Q 𝒜 (a ∷ ℬ)
+
+-- the longer policy `L` is the shorter `P` with assertions added: "alike in version, constants and verbs with their kinds, number by number"
+pub record Longer (Q : Assertion → Type 0) (P L : Policy) : Type 0 where
+  pub version : L .version ≡ P .version
+  pub constants : L .constants ≡ P .constants
+  pub verbs : L .verbs ≡ P .verbs
+  pub assertions : Adds Q (P .assertions) (L .assertions)
+
+abbrev pub InReach : Policy → Request → ℕ → Type 0
+InReach P q = Reach (worldOf P q) (P .assertions) (issuers (q .node) (worldOf P q))
+
+abbrev pub IssuedOutside : Policy → Request → Assertion → Type 0
+IssuedOutside P q a = ¬ InReach P q (a .issuer)
+
+-- first half: "If every added issuer is outside the reach in the shorter policy, result and both buffers are the same, byte for byte."
+abbrev pub Outsiders : Type 0
+Outsiders = (policy longer request facts answers : List ℕ) (P L : Policy) (q : Request) → Inputs policy request P q → ReadAs longer L
+    → Longer (IssuedOutside P q) P L
+    → decision longer request facts answers ≡ decision policy request facts answers
+
+abbrev pub who : Said → ℕ
+who (said a d f) = a
+
+-- "Each issuer in the reach says the same, in the same rounds, when assertions from outside it count too"
+abbrev pub Insiders : Type 0
+Insiders = (policy request : List ℕ) (P : Policy) (q : Request) → Inputs policy request P q
+    → (n : ℕ) (x : Said) → InReach P q (who x)
+    → Within (Rule (worldOf P q) (P .assertions)) n x ↔ Within (Rule (worldOf P q) (countingIn P q)) n x
+
+-- no "not" at any depth
+abbrev mutual
+  pub Positive : Node → Type 0
+  Positive (says e f) = Unit {0}
+  Positive (test c) = Unit {0}
+  Positive (allOf ns) = Positives ns
+  Positive (anyOf ns) = Positives ns
+  Positive (non n) = ⊥
+  Positive (exists v n) = Positive n
+
+  pub Positives : Nodes → Type 0
+  Positives end = Unit {0}
+  Positives (more n ns) = Positive n × Positives ns
+
+-- "both get a decision"
+abbrev pub IsDecision : Verdict → Type 0
+IsDecision allow = Unit {0}
+IsDecision deny = Unit {0}
+IsDecision (refusal n s p) = ⊥
+
+-- "An answer is listed if it stands among the counted answers at the front of the answer buffer."
+abbrev pub answerIn : List ℕ → ℕ → List ℕ
+answerIn buffer i = take answerBytes (drop (answerBytes * i) buffer)
+
+abbrev pub ListedIn : Report → List ℕ → Type 0
+ListedIn r θ = (i : ℕ) × (i < r .answers) × (answerIn (r .answerBuffer) i ≡ θ)
+
+abbrev pub Anyone : Assertion → Type 0
+Anyone a = Unit {0}
+
+-- second half: "Whoever issues them, if the request has no 'not' and both get a decision, every answer of the shorter is an answer of the longer."
+abbrev pub Growing : Type 0
+Growing = (policy longer request facts answers : List ℕ) (P L : Policy) (q : Request) → Inputs policy request P q → ReadAs longer L
+    → Longer Anyone P L → Positive (q .node)
+    → IsDecision (decision policy request facts answers .verdict) → IsDecision (decision longer request facts answers .verdict)
+    → (θ : List ℕ) → ListedIn (decision policy request facts answers) θ → ListedIn (decision longer request facts answers) θ
+
+-- ---- 5. kinds
+
+-- "no choice of kinds for the variables fits": the computed test says whether there is one, whatever the kinds of variables that do not occur
+abbrev pub Fitting : Type 0
+Fitting = (cs : List Constant) (D : Demands)
+    → T (fitting cs D) ↔ ((κ : List ℕ) × (length κ ≡ length variables) × ((v : ℕ) → v < length variables → List·Memᴰ (getD κ v 0) kinds) × T (meets cs D κ))
+
+-- a variable's kind is settled: a choice that fits gives it the kind of its first place in a fact
+abbrev pub OneKind : Type 0
+OneKind = (cs : List Constant) (D : Demands) (κ : List ℕ) → T (meets cs D κ)
+    → (v : ℕ) → (¬ (kindOf (D .places) v ≡ 0)) → getD κ v 0 ≡ kindOf (D .places) v
