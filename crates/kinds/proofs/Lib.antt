@@ -1,0 +1,4 @@
+pub mod Laws
+pub mod Exact
+pub mod Meaning
+pub mod Model

@@ -1,0 +1,5 @@
+pub mod Laws
+pub mod Sets
+pub mod Marking
+pub mod Model
+pub mod Ends

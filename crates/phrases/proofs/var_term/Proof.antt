@@ -1,0 +1,12 @@
+use borrow.Author.Needs.{needs}
+use Rattle.phrases.proofs.var_term.Statement.{statement}
+use Rattle.phrases.proofs.var_term.Tie as tie
+use Rattle.wire.proofs.Reading.{reading}
+use Rattle.kinds.specs.Asks.{varTerm}
+
+pub var-term-spec : {M : Type 1} → statement M
+unfolding varTerm
+var-term-spec = tie.close (tie.spec
+    (λ c. search (reading, needs))
+    (λ c. search needs)
+    (λ c. search (reading, needs)))

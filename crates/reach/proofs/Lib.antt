@@ -1,0 +1,4 @@
+pub mod Laws
+pub mod Found
+pub mod Meaning
+pub mod Counting

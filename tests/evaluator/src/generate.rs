@@ -1,0 +1,345 @@
+//! Random policies, requests and buffers: valid ones, damaged ones, and ones at the limits. A seed gives the same case again.
+use crate::read::{DAY, PRINCIPAL, QUANTITY, THING};
+
+/// A small generator of numbers (xorshift). A wild one puts in what does not fit, now and then.
+pub struct Random(u64, bool);
+
+impl Random {
+    pub fn new(seed: u64) -> Random {
+        let mut r = Random(seed.wrapping_mul(0x9e37_79b9_7f4a_7c15) | 1, false);
+        for _ in 0..4 {
+            r.next();
+        }
+        r.1 = r.once_in(3);
+        r
+    }
+
+    fn next(&mut self) -> u64 {
+        self.0 ^= self.0 << 13;
+        self.0 ^= self.0 >> 7;
+        self.0 ^= self.0 << 17;
+        self.0
+    }
+
+    /// below n
+    pub fn below(&mut self, n: usize) -> usize {
+        ((self.next() >> 11) % n as u64) as usize
+    }
+
+    /// from a to b, both included
+    pub fn range(&mut self, a: usize, b: usize) -> usize {
+        a + self.below(b - a + 1)
+    }
+
+    /// true once in n
+    pub fn once_in(&mut self, n: usize) -> bool {
+        self.below(n) == 0
+    }
+
+    /// true once in n, in a wild case only
+    pub fn wild(&mut self, n: usize) -> bool {
+        self.1 && self.once_in(n)
+    }
+
+    pub fn pick<T: Copy>(&mut self, all: &[T]) -> T {
+        all[self.below(all.len())]
+    }
+}
+
+pub struct Inputs {
+    pub policy: Vec<u8>,
+    pub request: Vec<u8>,
+    pub facts: Vec<u8>,
+    pub answers: Vec<u8>,
+}
+
+fn two(n: usize) -> [u8; 2] {
+    (n as u16).to_be_bytes()
+}
+
+fn file(body: Vec<u8>) -> Vec<u8> {
+    let mut f = vec![1];
+    f.extend((body.len() as u32).to_be_bytes());
+    f.extend(body);
+    f
+}
+
+/// What the policy's constants and verbs are, for the statements and the request.
+struct Names {
+    kinds: Vec<u8>,
+    verbs: Vec<Vec<u8>>,
+}
+
+impl Names {
+    fn of_kind(&self, kind: u8) -> Vec<usize> {
+        (0..self.kinds.len()).filter(|c| self.kinds[*c] == kind).collect()
+    }
+}
+
+/// The variables so far, each with its kind, so that most expressions fit.
+#[derive(Default, Clone)]
+struct Scope {
+    kinds: [u8; 8],
+}
+
+impl Scope {
+    fn var(&mut self, r: &mut Random, kind: u8) -> Option<usize> {
+        let v = r.below(8).min(r.below(8));
+        if self.kinds[v] == 0 {
+            self.kinds[v] = kind;
+        }
+        (self.kinds[v] == kind).then_some(v)
+    }
+
+    fn known(&self, r: &mut Random, kind: u8) -> Option<usize> {
+        let all: Vec<usize> = (0..8).filter(|v| self.kinds[*v] == kind).collect();
+        (!all.is_empty()).then(|| r.pick(&all))
+    }
+}
+
+/// An expression of a kind: mostly a constant that is there or a variable that fits.
+fn expr(r: &mut Random, n: &Names, kind: u8, s: &mut Scope, new: bool) -> [u8; 2] {
+    if r.wild(60) {
+        let wild = r.below(65536);
+        return two(r.pick(&[0x4000, 0x8000 + wild % 9, 254, 255, wild]));
+    }
+    if r.once_in(2) {
+        let v = if new { s.var(r, kind) } else { s.known(r, kind) };
+        if let Some(v) = v {
+            return two(0x8000 + v);
+        }
+    }
+    let all = n.of_kind(kind);
+    if all.is_empty() {
+        return two(0x8000 + s.var(r, kind).unwrap_or(0));
+    }
+    two(r.pick(&all))
+}
+
+/// `outer`: whether the first expression may be a new variable; `new`: whether the others may.
+fn fact(r: &mut Random, n: &Names, nest: usize, s: &mut Scope, outer: bool, new: bool) -> Vec<u8> {
+    let mut f = vec![nest as u8];
+    for level in 0..nest {
+        f.extend(expr(r, n, PRINCIPAL, s, if level == 0 { outer } else { new }));
+        f.push(r.below(2) as u8);
+    }
+    f.extend(expr(r, n, PRINCIPAL, s, if nest == 0 { outer } else { new }));
+    let verb = if r.wild(100) { r.below(256) } else { r.below(n.verbs.len()) };
+    f.push(verb as u8);
+    for kind in n.verbs.get(verb).cloned().unwrap_or_default() {
+        f.extend(expr(r, n, kind, s, new));
+    }
+    f
+}
+
+fn constraint(r: &mut Random, n: &Names, s: &mut Scope) -> Vec<u8> {
+    let op = if r.wild(60) { r.below(8) } else { r.range(1, 5) };
+    let kind = match op {
+        3 => r.pick(&[DAY, QUANTITY]),
+        4 => THING,
+        5 => DAY,
+        _ => r.pick(&[PRINCIPAL, THING, DAY, QUANTITY]),
+    };
+    let mut c = vec![op as u8];
+    for _ in 0..2 {
+        let e = expr(r, n, kind, s, false);
+        c.extend(if kind == DAY && r.once_in(3) { two(0x4000) } else { e });
+    }
+    c
+}
+
+fn nesting(r: &mut Random) -> usize {
+    r.pick(&[0, 0, 0, 1, 1, 1, 2, 3])
+}
+
+fn assertion(r: &mut Random, n: &Names) -> Vec<u8> {
+    let mut s = Scope::default();
+    let mut body = vec![];
+    let facts = r.pick(&[0, 0, 1, 1, 2, 2, 3, 4]);
+    body.push(facts);
+    for _ in 0..facts {
+        let nest = if r.wild(30) { 1 } else { 0 };
+        body.extend(fact(r, n, nest, &mut s, true, true));
+    }
+    let nest = nesting(r);
+    let wild = r.wild(10);
+    let head = fact(r, n, nest, &mut s, wild, nest > 0 || wild);
+    let tests = r.pick(&[0, 0, 0, 1, 1, 2, 4]);
+    body.push(tests);
+    for _ in 0..tests {
+        body.extend(constraint(r, n, &mut s));
+    }
+    let principals = n.of_kind(PRINCIPAL);
+    let issuer = if principals.is_empty() || r.wild(30) { r.below(n.kinds.len() + 1) } else { r.pick(&principals) };
+    let mut a = vec![0, 0, 0, r.below(256) as u8];
+    a.extend(two(issuer));
+    a.extend(head);
+    a.extend(body);
+    let mut item = two(a.len()).to_vec();
+    item.extend(a);
+    item
+}
+
+fn label(r: &mut Random) -> Vec<u8> {
+    let n = if r.wild(20) { r.range(30, 33) } else { r.range(1, 4) };
+    (0..n).map(|_| r.pick(b"abAB!~")).collect()
+}
+
+fn constant(r: &mut Random, kind: u8) -> Vec<u8> {
+    let mut c = vec![kind];
+    match kind {
+        PRINCIPAL | THING => c.extend(label(r)),
+        DAY => {
+            let base = r.pick(&[0usize, 365, 366, 1000, 36159, 36522]);
+            let more = if r.wild(10) { 3 } else { r.below(3) };
+            c.extend(((base + more) as u32).to_be_bytes());
+        }
+        _ => c.extend((r.pick(&[0, 1, 7, 255, 256, u32::MAX]) as u32).to_be_bytes()),
+    }
+    c
+}
+
+fn policy(r: &mut Random) -> (Vec<u8>, Names) {
+    let mut n = Names { kinds: vec![], verbs: vec![vec![PRINCIPAL]] };
+    let wanted = if r.once_in(100) { r.range(250, 255) } else { if r.wild(4) { r.range(1, 5) } else { r.range(5, 10) } };
+    let mut constants: Vec<Vec<u8>> = vec![];
+    for i in 0..wanted {
+        // one of each kind first, as a rule
+        let any = r.pick(&[PRINCIPAL, PRINCIPAL, PRINCIPAL, THING, THING, DAY, QUANTITY]);
+        let kind = *[PRINCIPAL, PRINCIPAL, THING, DAY, QUANTITY].get(i).unwrap_or(&any);
+        let kind = if r.wild(8) { any } else { kind };
+        let mut c = constant(r, kind);
+        if wanted > 20 {
+            c = [vec![PRINCIPAL], format!("p{i}").into_bytes()].concat();
+        }
+        if !constants.contains(&c) || r.wild(4) {
+            n.kinds.push(c[0]);
+            constants.push(c);
+        }
+    }
+    let mut body = two(constants.len()).to_vec();
+    for c in &constants {
+        body.push(c.len() as u8);
+        body.extend(c);
+    }
+    let verbs = r.below(5);
+    body.extend(two(verbs));
+    for i in 0..verbs {
+        let arity = r.pick(&[0, 0, 1, 1, 2, 3]);
+        let kinds: Vec<u8> = (0..arity).map(|_| r.pick(&[PRINCIPAL, THING, DAY, QUANTITY])).collect();
+        let mut v = vec![arity as u8];
+        v.extend(&kinds);
+        v.extend(format!("v{}", if r.wild(20) { 0 } else { i }).into_bytes());
+        body.push(v.len() as u8);
+        body.extend(v);
+        n.verbs.push(kinds);
+    }
+    let assertions = if wanted > 20 { r.below(3) } else { r.below(9) };
+    body.extend(two(assertions));
+    for _ in 0..assertions {
+        body.extend(assertion(r, &n));
+    }
+    (file(body), n)
+}
+
+fn node(r: &mut Random, n: &Names, s: &mut Scope, depth: usize) -> Vec<u8> {
+    let deepest = depth >= 4 && !r.wild(10);
+    match if deepest { r.below(3) } else { r.below(9) } {
+        0 | 1 => {
+            let nest = if r.once_in(3) { nesting(r) } else { 0 };
+            let mut p = vec![1];
+            p.extend(expr(r, n, PRINCIPAL, s, true));
+            p.extend(fact(r, n, nest, s, nest == 0, nest == 0));
+            p
+        }
+        2 => [vec![2], constraint(r, n, s)].concat(),
+        k @ 3..=6 => {
+            let parts = if r.wild(20) { r.below(10) } else { r.range(1, 3) };
+            let mut p = vec![if k < 6 { 3 } else { 4 }, parts as u8];
+            for _ in 0..parts {
+                p.extend(node(r, n, s, depth + 1));
+            }
+            p
+        }
+        7 => [vec![5], node(r, n, s, depth + 1)].concat(),
+        _ => {
+            let v = if r.wild(20) { 8 } else { r.range(4, 7) };
+            let inner = node(r, n, s, depth + 2);
+            if v == 8 || s.kinds[v] != 0 {
+                return [vec![6, v as u8], inner].concat();
+            }
+            // most often the variable is made known by a says node before the rest
+            let mut own = s.clone();
+            own.kinds[v] = PRINCIPAL;
+            let mut p = vec![6, v as u8, 3, 2, 1];
+            p.extend(expr(r, n, PRINCIPAL, s, false));
+            p.push(0);
+            p.extend(two(0x8000 + v));
+            let verb = r.below(n.verbs.len());
+            p.push(verb as u8);
+            for kind in n.verbs[verb].clone() {
+                p.extend(expr(r, n, kind, s, false));
+            }
+            p.extend(if r.once_in(2) { node(r, n, &mut own, depth + 2) } else { inner });
+            p
+        }
+    }
+}
+
+fn request(r: &mut Random, n: &Names) -> Vec<u8> {
+    let latest = if r.wild(10) { 36525 } else { 36524 };
+    let today = r.pick(&[0usize, 1, 365, 366, 1000, 36524, latest]);
+    let mut body = (today as u32).to_be_bytes().to_vec();
+    body.extend(node(r, n, &mut Scope::default(), 1));
+    file(body)
+}
+
+/// Some bytes changed, cut out or put in; the length field is mended half of the time.
+fn damage(r: &mut Random, s: &mut Vec<u8>) {
+    for _ in 0..r.range(1, 3) {
+        if s.is_empty() {
+            break;
+        }
+        let at = r.below(s.len());
+        match r.below(5) {
+            0 => s[at] = r.below(256) as u8,
+            1 => s[at] = s[at].wrapping_add(1),
+            2 => {
+                s.remove(at);
+            }
+            3 => s.insert(at, r.pick(&[0, 1, 2, 3, 4, 5, 128, 255])),
+            _ => s.truncate(at),
+        }
+    }
+    if s.len() >= 5 && r.once_in(2) {
+        let n = (s.len() - 5) as u32;
+        s[1..5].copy_from_slice(&n.to_be_bytes());
+    }
+}
+
+/// The case with a number. Buffers are as long as `facts` and `answers` ask, a byte or a record more or less.
+pub fn case(seed: u64, sizes: impl Fn(&[u8], &[u8]) -> (usize, usize)) -> Inputs {
+    let mut r = Random::new(seed);
+    let (mut policy, names) = policy(&mut r);
+    let mut request = request(&mut r, &names);
+    if r.wild(2) {
+        if r.once_in(2) {
+            damage(&mut r, &mut policy);
+        } else {
+            damage(&mut r, &mut request);
+        }
+    }
+    let (facts, answers) = sizes(&policy, &request);
+    let near = |r: &mut Random, n: usize, width: usize| match r.below(6) {
+        0 => (width * n).saturating_sub(1),
+        1 => width * n,
+        2 => width * n + r.below(width),
+        3 => width * n.saturating_sub(1),
+        4 => r.below(width * n + 2),
+        _ => width * (n + r.below(40)) + r.below(width),
+    };
+    let fill = r.below(256) as u8;
+    let facts = vec![fill; near(&mut r, facts, 16)];
+    let answers = vec![fill; near(&mut r, answers, 8)];
+    Inputs { policy, request, facts, answers }
+}
