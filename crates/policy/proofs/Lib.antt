@@ -1,0 +1,9 @@
+pub mod FormFacts
+pub mod ListFacts
+pub mod ItemFacts
+pub mod AssertionLaws
+pub mod TableLaws
+pub mod TableFacts
+pub mod AssertionFacts
+pub mod PolicyFacts
+pub mod LabelFacts

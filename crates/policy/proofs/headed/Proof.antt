@@ -1,0 +1,19 @@
+use borrow.Author.Needs.{needs}
+use Rattle.policy.proofs.headed.Statement.{statement}
+use Rattle.policy.proofs.headed.Tie as tie
+use native.Mathlib.Omega.{arith}
+use Rattle.policy.proofs.ListFacts.{list-next}
+use Rattle.policy.proofs.ItemFacts.{constant-reads}
+use Rattle.model.specs.Policies.{constantsFrom}
+use Rattle.policy.proofs.PolicyFacts.{then-taken, then-refused}
+
+pub headed-spec : {M : Type 1} → statement M
+unfolding constantsFrom
+headed-spec = tie.close (tie.spec
+    (λ c κs. search needs)
+    (λ c. search needs)
+    (λ c κs. (c .before .before .before .before .before .pre, list-next _ _ _ _ _ _ (constant-reads (c .before .before .before .before .before .args .s .now)) _ _ _ (c .before .before .before .constants .ensures) (c .before .p .given .1)))
+    (λ c. search needs)
+    (λ c κs. search needs)
+    (λ c. then-taken _ _ _ _ _ (list-next _ _ _ _ _ _ (constant-reads (c .before .before .before .before .before .before .args .s .now)) _ _ _ (c .before .before .before .before .constants .ensures) (c .before .before .p .given .1)) (c .with-constants .ensures))
+    (λ c. search (then-refused, needs)))

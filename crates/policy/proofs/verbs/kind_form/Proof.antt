@@ -1,0 +1,12 @@
+use borrow.Author.Needs.{needs}
+use Rattle.policy.proofs.verbs.kind_form.Statement.{statement}
+use Rattle.policy.proofs.verbs.kind_form.Tie as tie
+use Rattle.wire.proofs.byte.Reads as byte-reads
+use Rattle.wire.proofs.Reading.{reading}
+use native.Mathlib.Omega.{arith}
+
+pub kind-form-spec : {M : Type 1} → statement M
+kind-form-spec = tie.close (tie.spec
+    (λ c κs. search needs)
+    (λ c. rw (← c .before .byte .ensures .0) (search (reading, needs)))
+    (λ c. rw (← c .before .byte .ensures .0) (search (reading, needs))))

@@ -1,0 +1,19 @@
+use borrow.Author.Needs.{needs}
+use Rattle.policy.proofs.with_constants.Statement.{statement}
+use Rattle.policy.proofs.with_constants.Tie as tie
+use native.Mathlib.Omega.{arith}
+use Rattle.policy.proofs.ListFacts.{list-next}
+use Rattle.policy.proofs.ItemFacts.{verb-reads}
+use Rattle.model.specs.Policies.{verbsFrom}
+use Rattle.policy.proofs.PolicyFacts.{constants-within, then-taken, then-refused}
+
+pub with-constants-spec : {M : Type 1} → statement M
+unfolding verbsFrom
+with-constants-spec = tie.close (tie.spec
+    (λ c κs. let P = c .before .pre in omega (arith, constants-within _ _ (P .1)))
+    (λ c. search needs)
+    (λ c κs. let P = c .before .before .before .before .before .pre in (P .0, P .1, list-next _ _ _ _ _ _ (verb-reads (c .before .before .before .before .before .args .s .now)) _ _ _ (c .before .before .before .verbs .ensures) (c .before .q .given .1)))
+    (λ c. search needs)
+    (λ c κs. search needs)
+    (λ c. then-taken _ _ _ _ _ (list-next _ _ _ _ _ _ (verb-reads (c .before .before .before .before .before .before .args .s .now)) _ _ _ (c .before .before .before .before .verbs .ensures) (c .before .before .q .given .1)) (c .with-verbs .ensures))
+    (λ c. search (then-refused, needs)))

@@ -1,0 +1,13 @@
+pub mod TreeSteps
+pub mod NodeSteps
+pub mod SafetySteps
+pub mod KnownSteps
+pub mod TreeLaws
+pub mod ReadLaws
+pub mod CheckLaws
+pub mod IssuerSteps
+pub mod RequestSteps
+pub mod SafeLaws
+pub mod KindLaws
+pub mod RequestLaws
+pub mod IssuerLaws

@@ -1,0 +1,23 @@
+use borrow.Author.Needs.{needs}
+use Rattle.request.proofs.safety.says_known.Statement.{statement}
+use Rattle.request.proofs.safety.says_known.Tie as tie
+use Rattle.wire.proofs.Reading.{reading}
+use Rattle.request.proofs.SafetySteps.{safe-of, via-num, via-other}
+use Rattle.request.proofs.KnownSteps.{says-flat, says-nested}
+
+pub says-known-spec : {M : Type 1} → statement M
+says-known-spec =
+    tie.close
+    (tie.spec
+    (λ c. search needs)
+    (λ c κs. search needs)
+    (λ c. search needs)
+    (λ c κs. search needs)
+    (λ c. search needs)
+    (λ c κs. search needs)
+    (λ c. let h = rw (c .before .before .before .mark-at .ensures) at (c .fact-marks .ensures) in search (says-flat, safe-of, via-num, reading, needs))
+    (λ c. search needs)
+    (λ c κs. search needs)
+    (λ c κs. search needs)
+    (λ c κs. search needs)
+    (λ c. let h = rw (c .before .fact-marks2 .ensures, c .before .before .none .ensures, c .before .before .before .before .before .mark-at .ensures) at (c .needed .ensures) in search (says-nested, via-other, reading, needs)))

@@ -1,0 +1,5 @@
+pub mod Tree
+pub mod Nodes
+pub mod Safety
+pub mod Requests
+pub mod Issuing
