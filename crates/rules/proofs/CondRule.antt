@@ -1,0 +1,262 @@
+-- The rule cond over assertions laid out in rows: the records that a record of the table gives in the place of a body fact are those of what uses of the rule give.
+use mathlib.Core.Path.{_≡_, refl, sym, ap, ap₂, subst, _∙_}
+use mathlib.Core.Logic.{_⊎_, inl, inr, ⊎-elim, _≢_}
+use mathlib.Core.Bool.{Bool, true, false, cond, true≢false}
+use mathlib.Core.Option.{Option, none, some}
+use mathlib.Core.List.{List, [], _∷_, _++_, map, map-append, List·Memᴰ, List·Memᴰ·head, List·Memᴰ·tail, List·Memᴰ·not-nil, List·Memᴰ·cases-cons, List·Memᴰ·eq-of-singleton, Memᴰ·cast, Memᴰ·map, Memᴰ·of-map}
+use Prim.Native.Nat.{ℕ, zero, suc, _+_, _*_, _-_, _/_, _%_, _≤_, _<_, zero-le}
+use native.Mathlib.Nat.{mod-eq-of-lt, not-suc-le-zero}
+use native.Mathlib.Decide.{ℕ-discrete, decLt}
+use native.Mathlib.Omega.{arith}
+use lib.ListN.{length, getD, drop, List·getD-map}
+use lib.Dec.{T, eqb, ltb}
+use borrow.Author.Tests.{lt-ltb, le-ltb, eq-eqb, ne-eqb, eqb-true}
+use Rattle.model.specs.Limits.{unbound}
+use Rattle.model.specs.Lists.{all, pad}
+use Rattle.model.specs.Syntax.{Expr, con, var, today, Fact, flat, canSay, mapFact, Constraint, Constant, Assertion, World, Said, said, varsTest}
+use Rattle.model.specs.Kinds.{variables}
+use Rattle.model.specs.Values.{bound, choices, kindsOf, bindings, bindingsOf, passes}
+use Rattle.model.specs.Readings.{constraintAt, constraintsAt}
+use Rattle.model.specs.Closure.{Derives, Within, First, Use}
+use Rattle.model.specs.Rules as R
+use Rattle.model.specs.Rules.{Rule, depths, headOf, bodyOf}
+use Rattle.model.specs.Records.{key, nest, speakers, phrase, recordOf}
+use Rattle.model.proofs.ListFacts.{all-of, all-in}
+use Rattle.model.proofs.BindingFacts.{at-variable, bindings-of}
+use Rattle.model.proofs.RecordFacts.{Arity}
+use Rattle.constraints.specs.Told.{toldBoth}
+use Rattle.rules.specs.Matching.{at, fits}
+use Rattle.rules.specs.Rows.{levels, speakersOf, padded, phraseOf, rowOf, rowAt, byteOf, field, instanceOf}
+use Rattle.rules.specs.Cond.{Frame, frame, kindAt, headRow, headRecord, bodies, bodyRow, condOf, condAt, condFirst, unbound8}
+use Rattle.rules.proofs.MatchFacts.{Under, HasAll, Ground}
+use Rattle.rules.proofs.KindFacts.{choice-below}
+use Rattle.rules.proofs.ExtendFacts.{L, In, T-true, Over, Binds, long}
+use Rattle.rules.proofs.CondFacts.{follow-of, follow-in, Met, MetLast, match-of, match-in, match-long, cond-of, cond-in}
+use Rattle.rules.proofs.TestFacts.{early-upto, late-upto, ends-upto, constraint-in, constraint-of, told-in}
+use Rattle.rules.proofs.Good.{Below, SmallFact, Fitting, Good, Heads, good, key-below, below-ground, arity-instance}
+use Rattle.rules.proofs.RoundLaw.{Holds, derived, within}
+use Rattle.rules.proofs.UseFacts.{rec, keyed, fitting, same, Hold, Gives}
+
+-- ---- a row's instance is the instance's key
+
+module _ (θ : List ℕ) where
+  map-padded : (n : ℕ) (l : List Expr) → map (bound θ) (padded n l) ≡ pad n (map (bound θ) l)
+  map-padded zero l = refl
+  map-padded (suc n) [] = ap (_∷_ 0) (map-padded n [])
+  map-padded (suc n) (x ∷ l) = ap (_∷_ (bound θ x)) (map-padded n l)
+
+  same-nest : (f : Fact Expr) → levels f ≡ nest (mapFact (bound θ) f)
+  same-nest (flat s v ps) = refl
+  same-nest (canSay s d f) = ap suc (same-nest f)
+
+  same-speakers : (f : Fact Expr) → map (bound θ) (speakersOf f) ≡ speakers (mapFact (bound θ) f)
+  same-speakers (flat s v ps) = refl
+  same-speakers (canSay s d f) = ap (λ (l : List ℕ). bound θ s ∷ d ∷ l) (same-speakers f)
+
+  same-phrase : (f : Fact Expr) → map (bound θ) (phraseOf f) ≡ phrase (mapFact (bound θ) f)
+  same-phrase (flat s v ps) = ap (λ (l : List ℕ). bound θ s ∷ v ∷ l) (map-padded 3 ps)
+  same-phrase (canSay s d f) = same-phrase f
+
+  pub row-key : (a d : ℕ) (f : Fact Expr) → map (bound θ) (con a ∷ con d ∷ rowOf f) ≡ key (said a d (mapFact (bound θ) f))
+  unfolding rowOf
+  row-key a d f = ap₂ (λ (n : ℕ) (l : List ℕ). a ∷ d ∷ n ∷ l) (same-nest f)
+      (map-append (bound θ) (padded 6 (speakersOf f)) (phraseOf f) ∙ ap₂ _++_ (map-padded 6 (speakersOf f) ∙ ap (pad 6) (same-speakers f)) (same-phrase f))
+
+  fields : (es : List Expr) → Below (map (bound θ) es) → map (field θ) es ≡ map (bound θ) es
+  fields [] b = refl
+  fields (e ∷ es) b = ap₂ _∷_ (mod-eq-of-lt (let h : bound θ e < 255 = b .0 in omega arith)) (fields es (b .1))
+
+-- ---- an assertion in rows
+
+abbrev pub none′ : Fact Expr
+none′ = flat today 0 []
+
+-- the assertion stands in the rows from `at` on, and its constraints in the policy from `tests` on
+pub record Laid (W : World) (a : Assertion) (rows policy : List ℕ) (at tests : ℕ) : Type 0 where
+  pub issuer : getD rows at 0 ≡ a .issuer
+  pub count : getD rows (at + 1) 0 ≡ length (a .body)
+  pub four : length (a .body) ≤ 4
+  pub head : rowAt rows (at + 11) ≡ rowOf (a .head)
+  pub body : (i : ℕ) → i < length (a .body) → rowAt rows (at + 23 + 12 * i) ≡ rowOf (getD (a .body) i none′)
+  pub kinds : (v : ℕ) → v < 8 → getD rows (at + 3 + v) 0 ≡ kindsOf W a v
+  pub tested : a .tests ≡ constraintsAt (getD rows (at + 2) 0) policy tests
+
+-- what is asked of an assertion beside its head
+pub record Proper (W : World) (a : Assertion) : Type 0 where
+  pub heads : Heads W a
+  pub arities : (f : Fact Expr) → List·Memᴰ f (a .body) → Arity (W .verbs) f
+  pub rows : (f : Fact Expr) → List·Memᴰ f (a .body) → HasAll 8 (rowOf f)
+  -- "Body facts are flat."
+  pub flatly : (f : Fact Expr) → List·Memᴰ f (a .body) → levels f ≡ 0
+  -- "Constraint variables occur in head or body": they have a kind
+  pub occurs : (c : Constraint) → List·Memᴰ c (a .tests) → (v : ℕ) → List·Memᴰ v (varsTest c) → (v < 8) × (kindsOf W a v ≢ 0)
+
+pub at-some : {A : Type 0} (d x : A) (l : List A) → List·Memᴰ x l → (i : ℕ) × (i < length l) × (x ≡ getD l i d)
+at-some d x [] m = absurd (List·Memᴰ·not-nil m)
+at-some d x (y ∷ l) m = ⊎-elim (λ (e : x ≡ y). (0, omega arith, e)) (λ h. let r = at-some d x l h in (suc (r .0), (let k : r .0 < length l = r .1 in omega arith), r .2)) (List·Memᴰ·cases-cons m)
+
+pub some-at : {A : Type 0} (d : A) (l : List A) (i : ℕ) → i < length l → List·Memᴰ (getD l i d) l
+some-at d [] i h = absurd (not-suc-le-zero h)
+some-at d (x ∷ l) zero h = List·Memᴰ·head refl
+some-at d (x ∷ l) (suc i) h = List·Memᴰ·tail (some-at d l i (omega arith))
+
+unbound-at : (v : ℕ) → at unbound8 v ≡ unbound
+unbound-at zero = refl
+unbound-at (suc zero) = refl
+unbound-at (suc (suc zero)) = refl
+unbound-at (suc (suc (suc zero))) = refl
+unbound-at (suc (suc (suc (suc zero)))) = refl
+unbound-at (suc (suc (suc (suc (suc zero))))) = refl
+unbound-at (suc (suc (suc (suc (suc (suc zero)))))) = refl
+unbound-at (suc (suc (suc (suc (suc (suc (suc zero))))))) = refl
+unbound-at (suc (suc (suc (suc (suc (suc (suc (suc v)))))))) = refl
+
+module _ (W : World) (few : length (W .constants) ≤ 255) (a : Assertion) (P : Proper W a) (rows policy : List ℕ) (from tests : ℕ) (laid : Laid W a rows policy from tests) (round d skip : ℕ) where
+  abbrev pub F : Frame
+  F = frame W rows (map (λ (c : Constant). c .kind) (W .constants)) policy from tests round (a .issuer) d skip
+
+  abbrev ks : List ℕ
+  ks = map (kindsOf W a) variables
+
+  abbrev pub passing : List ℕ → Bool
+  passing θ = all (passes W θ) (a .tests)
+
+  -- a variable that has a kind is bound
+  bound-kind : (θ : List ℕ) → List·Memᴰ θ (bindingsOf W a) → (v : ℕ) → v < 8 → kindsOf W a v ≢ 0 → at θ v ≢ unbound
+  bound-kind θ m v l n z = go (kindsOf W a v) n (subst (λ (k : ℕ). List·Memᴰ (at θ v) (choices (W .constants) k)) (at-variable (kindsOf W a) v l) (bindings-of (W .constants) ks θ m .1 v (omega arith)))
+    where
+      go : (k : ℕ) → k ≢ 0 → List·Memᴰ (at θ v) (choices (W .constants) k) → ⊥
+      go zero n m = n refl
+      go (suc k) n m = let h = choice-below (W .constants) few k (at θ v) m in omega (arith, z)
+
+  pub over : Over F (W .constants) ks passing
+  over = record {
+    few = few;
+    constants = refl;
+    eight = refl;
+    kinds = λ v l. laid .kinds v l ∙ sym (at-variable (kindsOf W a) v l);
+    early = λ τ θ l u m e. early-upto W policy tests (getD rows (from + 2) 0) τ θ u (λ i h. T-true _ (all-of (passes W θ) (subst T (sym e) tt) (here i h)));
+    late = λ τ θ l u m p t. T-true _ (all-in (passes W θ) (a .tests) (λ c h. let i = constraint-of (getD rows (from + 2) 0) policy tests c (subst (List·Memᴰ c) (laid .tested) h) in
+        subst (λ (x : Constraint). T (passes W θ x)) (sym (i .2)) (subst T (sym (late-upto W policy tests (getD rows (from + 2) 0) τ θ u p t (i .0) (i .1))) tt)));
+    ends = λ θ m. ends-upto W policy tests (getD rows (from + 2) 0) θ (λ i h. told-in θ (constraintAt policy (tests + 5 * i)) (λ v k. let o = P .occurs (constraintAt policy (tests + 5 * i)) (here i h) v k in bound-kind θ m v (o .0) (o .1)));
+  }
+    where
+      here : (i : ℕ) → i < getD rows (from + 2) 0 → List·Memᴰ (constraintAt policy (tests + 5 * i)) (a .tests)
+      here i h = rw (laid .tested) (constraint-in (getD rows (from + 2) 0) policy tests i h)
+
+  pub body-count : bodies F ≡ length (a .body)
+  body-count = go (laid .four) (laid .count)
+    where
+      go : {n m : ℕ} → m ≤ 4 → n ≡ m → cond (ltb n 4) n 4 ≡ m
+      go {n} {m} h e = pick (decLt n 4)
+        where
+          pick : Dec (n < 4) → cond (ltb n 4) n 4 ≡ m
+          pick (yes l) = rw (lt-ltb n 4 l) e
+          pick (no l) = rw (le-ltb n 4 (omega arith)) (omega arith)
+
+  row-is : (i : ℕ) → i < length (a .body) → bodyRow F i ≡ con (a .issuer) ∷ con d ∷ rowOf (getD (a .body) i none′)
+  row-is i h = ap (λ (r : List Expr). con (a .issuer) ∷ con d ∷ r) (laid .body i h)
+
+  has-rows : (i : ℕ) → i < bodies F → HasAll 8 (bodyRow F i)
+  has-rows i h = let l : i < length (a .body) = omega (arith, body-count) in subst (HasAll 8) (sym (row-is i l)) (tt, (tt, P .rows (getD (a .body) i none′) (some-at none′ (a .body) i l)))
+
+  -- the record of the head
+  head-is : (θ : List ℕ) → List·Memᴰ θ (bindingsOf W a) → (d < 255) → headRecord F θ ≡ byteOf (round / 256) ∷ byteOf round ∷ key (headOf a d θ)
+  unfolding instanceOf
+  head-is θ m h =
+      let e : map (bound θ) (con (a .issuer) ∷ con d ∷ headRow F) ≡ key (headOf a d θ) = ap (λ (r : List Expr). map (bound θ) (con (a .issuer) ∷ con d ∷ r)) (laid .head) ∙ row-key θ (a .issuer) d (a .head) in
+      let b : Below (map (bound θ) (con (a .issuer) ∷ con d ∷ headRow F)) = subst Below (sym e) (key-below W (headOf a d θ) (record { arity = ar; shape = P .heads .shape θ; small = (P .heads .issuer, h, P .heads .small θ m) })) in
+      ap (λ (l : List ℕ). byteOf (round / 256) ∷ byteOf round ∷ a .issuer ∷ d ∷ l) (fields θ (headRow F) (b .1 .1)) ∙ ap (λ (l : List ℕ). byteOf (round / 256) ∷ byteOf round ∷ l) e
+    where
+      ar : Fitting W (headOf a d θ)
+      ar = arity-instance W θ (a .head) (P .heads .arity)
+
+  -- ---- uses of the rule
+
+  module _ (𝒜 : List Assertion) (heads : (a : Assertion) → List·Memᴰ a 𝒜 → Heads W a) (counts : List·Memᴰ a 𝒜) (md : List·Memᴰ d depths) (small : d < 255) (n : ℕ) (stamp : suc n < 65536 → round ≡ suc n) where
+    -- the head of an instance whose body is of earlier rounds
+    head-gives : (θ c : List ℕ) → List·Memᴰ θ (bindingsOf W a) → passing θ ≡ true → c ≡ headRecord F θ → ((x : Said) → List·Memᴰ x (bodyOf a d θ) → Within (Rule W 𝒜) n x) → Gives W 𝒜 heads n c
+    head-gives θ c m t e h =
+        let i = head-is θ m small in (
+          headOf a d θ,
+          ap (drop 2) (e ∙ i),
+          (λ l. e ∙ i ∙ ap₂ (λ (x y : ℕ). x ∷ y ∷ key (headOf a d θ)) (ap (λ (r : ℕ). byteOf (r / 256)) (stamp l) ∙ mod-eq-of-lt (omega arith)) (ap byteOf (stamp l))),
+          (bodyOf a d θ, R.cond counts md m (subst T (sym t) tt), h),
+        )
+
+    module _ (t : L) (H : Hold W 𝒜 heads n t) where
+      pub ground : (q : List ℕ) → In q t → Ground (drop 2 q)
+      ground q m =
+          let s = H .sound q m in
+          subst (λ (r : List ℕ). Ground (drop 2 r)) (sym (s .2)) (below-ground (key (s .1)) (key-below W (s .1) (good W 𝒜 heads (s .1) (derived (Rule W 𝒜) key rec (keyed W 𝒜 heads) (Fitting W) (fitting W 𝒜 heads) (same W 𝒜 heads) (s .0) (s .1) (s .3)))))
+
+      met-old : (θ : List ℕ) (i : ℕ) → i < length (a .body) → Met over t has-rows ground i θ → Within (Rule W 𝒜) n (said (a .issuer) d (mapFact (bound θ) (getD (a .body) i none′)))
+      met-old θ i h m =
+          within (Rule W 𝒜) key rec (keyed W 𝒜 heads) (Fitting W) (fitting W 𝒜 heads) (same W 𝒜 heads) n t H (m .0) (m .1) (said (a .issuer) d (mapFact (bound θ) (getD (a .body) i none′)))
+          (arity-instance W θ (getD (a .body) i none′) (P .arities (getD (a .body) i none′) (some-at none′ (a .body) i h)))
+          (sym (m .2) ∙ ap (map (bound θ)) (row-is i h) ∙ row-key θ (a .issuer) d (getD (a .body) i none′))
+
+      old-met : (θ : List ℕ) (i : ℕ) → i < length (a .body) → Within (Rule W 𝒜) n (said (a .issuer) d (mapFact (bound θ) (getD (a .body) i none′))) → Met over t has-rows ground i θ
+      old-met θ i h w =
+          let m = H .whole (said (a .issuer) d (mapFact (bound θ) (getD (a .body) i none′))) w in
+          (rec (m .0) (said (a .issuer) d (mapFact (bound θ) (getD (a .body) i none′))), m .1, ap (map (bound θ)) (row-is i h) ∙ row-key θ (a .issuer) d (getD (a .body) i none′))
+
+      body-old : (θ : List ℕ) → ((i : ℕ) → i < length (a .body) → Met over t has-rows ground i θ) → (x : Said) → List·Memᴰ x (bodyOf a d θ) → Within (Rule W 𝒜) n x
+      body-old θ h x m =
+          let f = Memᴰ·of-map (λ (f : Fact Expr). said (a .issuer) d (mapFact (bound θ) f)) (a .body) m in
+          let i = at-some none′ (f .0) (a .body) (f .1) in
+          subst (Within (Rule W 𝒜) n) (ap (λ (f : Fact Expr). said (a .issuer) d (mapFact (bound θ) f)) (sym (i .2)) ∙ f .2) (met-old θ (i .0) (i .1) (h (i .0) (i .1)))
+
+      pub cond-gives : (q c : List ℕ) → In q t → skip < length (a .body) → In c (condAt F t q) → Gives W 𝒜 heads n c
+      unfolding condAt
+      cond-gives q c mq hs m =
+          let ls : skip < bodies F = omega (arith, body-count) in
+          let f = follow-of (fits unbound8 (bodyRow F skip) (drop 2 q)) (condOf F t (bodies F)) c m in
+          let l = match-long over t has-rows ground skip unbound8 (f .0) q refl (f .1) in
+          let w = cond-of over t has-rows ground (bodies F) (f .0) c (omega arith) l (f .2) in
+          let g = match-of over t has-rows ground skip unbound8 (f .0) (w .0) q ls mq refl (f .1) (w .1 .1) in
+          head-gives (w .0) c (w .1 .0) (w .1 .2) (w .1 .3) (body-old (w .0) (λ i h. all (w .0) (g .1) (w .1 .4) i h (ℕ-discrete i skip)))
+        where
+          all : (θ : List ℕ) → Met over t has-rows ground skip θ → MetLast over t has-rows ground (bodies F) θ → (i : ℕ) → i < length (a .body) → Dec (i ≡ skip) → Met over t has-rows ground i θ
+          all θ g ms i h (yes e) = subst (λ (j : ℕ). Met over t has-rows ground j θ) (sym e) g
+          all θ g ms i h (no e) = ms i (omega arith) (omega (arith, body-count)) e
+
+      pub cond-given : (q θ : List ℕ) → In q t → skip < length (a .body) → drop 2 q ≡ key (said (a .issuer) d (mapFact (bound θ) (getD (a .body) skip none′)))
+          → List·Memᴰ θ (bindingsOf W a) → passing θ ≡ true → ((x : Said) → List·Memᴰ x (bodyOf a d θ) → Within (Rule W 𝒜) n x) → (c : List ℕ) × In c (condAt F t q) × (drop 2 c ≡ key (headOf a d θ))
+      unfolding condAt
+      cond-given q θ mq hs e m pass old =
+          let ls : skip < bodies F = omega (arith, body-count) in
+          let f = match-in over t has-rows ground skip unbound8 θ q ls mq refl (λ v. inl (unbound-at v)) (ap (map (bound θ)) (row-is skip hs) ∙ row-key θ (a .issuer) d (getD (a .body) skip none′) ∙ sym e) in
+          let l = match-long over t has-rows ground skip unbound8 (f .0) q refl (f .1) in (
+            headRecord F θ,
+            follow-in (fits unbound8 (bodyRow F skip) (drop 2 q)) (condOf F t (bodies F)) (headRecord F θ) (f .0) (f .1)
+                (cond-in over t has-rows ground (bodies F) (f .0) θ (omega arith) l m (f .2) pass (λ i x y z. let h : i < length (a .body) = omega (arith, body-count) in old-met θ i h (old _ (Memᴰ·map (λ (f : Fact Expr). said (a .issuer) d (mapFact (bound θ) f)) (some-at none′ (a .body) i h))))),
+            ap (drop 2) (head-is θ m small),
+          )
+
+    -- ---- an assertion without a body
+
+    pub first-gives : (c : List ℕ) → In c (condFirst F) → Gives W 𝒜 heads n c
+    unfolding condFirst
+    first-gives c m = go (eqb (bodies F) 0) refl m
+      where
+        go : (b : Bool) → eqb (bodies F) 0 ≡ b → In c (cond b (condOf F [] 0 unbound8) []) → Gives W 𝒜 heads n c
+        go false e m = absurd (List·Memᴰ·not-nil m)
+        go true e m =
+            let w = cond-of over [] has-rows (λ q h. absurd (List·Memᴰ·not-nil h)) 0 unbound8 c zero-le refl m in
+            head-gives (w .0) c (w .1 .0) (w .1 .2) (w .1 .3) (λ x h. absurd (none-there x (w .0) h))
+          where
+            none-there : (x : Said) (θ : List ℕ) → List·Memᴰ x (bodyOf a d θ) → ⊥
+            none-there x θ h =
+                let f = Memᴰ·of-map (λ (f : Fact Expr). said (a .issuer) d (mapFact (bound θ) f)) (a .body) h in
+                let i = at-some none′ (f .0) (a .body) (f .1) in
+                let l : i .0 < length (a .body) = i .1 in
+                omega (arith, body-count, eqb-true (bodies F) 0 e)
+
+    pub first-given : (θ : List ℕ) → length (a .body) ≡ 0 → List·Memᴰ θ (bindingsOf W a) → passing θ ≡ true → (c : List ℕ) × In c (condFirst F) × (drop 2 c ≡ key (headOf a d θ))
+    unfolding condFirst
+    first-given θ z m pass = (
+      headRecord F θ,
+      rw (eq-eqb (bodies F) 0 (body-count ∙ z)) (cond-in over [] has-rows (λ q h. absurd (List·Memᴰ·not-nil h)) 0 unbound8 θ zero-le refl m (λ v. inl (unbound-at v)) pass (λ i x y n. absurd (omega (arith, body-count)))),
+      ap (drop 2) (head-is θ m small),
+    )

@@ -1,0 +1,14 @@
+pub mod MatchFacts
+pub mod KindFacts
+pub mod ExtendFacts
+pub mod CondFacts
+pub mod SemiNaive
+pub mod RoundLaw
+pub mod Shapes
+pub mod Good
+pub mod UseFacts
+pub mod ActFacts
+pub mod TestFacts
+pub mod CondRule
+pub mod RoundFacts
+pub mod Outcome

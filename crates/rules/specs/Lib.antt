@@ -1,0 +1,5 @@
+pub mod Matching
+pub mod Rows
+pub mod Cond
+pub mod Uses
+pub mod Rounds
