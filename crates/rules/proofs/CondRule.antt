@@ -4,7 +4,7 @@ use mathlib.Core.Logic.{_⊎_, inl, inr, ⊎-elim, _≢_}
 use mathlib.Core.Bool.{Bool, true, false, cond, true≢false}
 use mathlib.Core.Option.{Option, none, some}
 use mathlib.Core.List.{List, [], _∷_, _++_, map, map-append, List·Memᴰ, List·Memᴰ·head, List·Memᴰ·tail, List·Memᴰ·not-nil, List·Memᴰ·cases-cons, List·Memᴰ·eq-of-singleton, Memᴰ·cast, Memᴰ·map, Memᴰ·of-map}
-use Prim.Native.Nat.{ℕ, zero, suc, _+_, _*_, _-_, _/_, _%_, _≤_, _<_, zero-le}
+use Prim.Native.Nat.{ℕ, zero, suc, _+_, _*_, _-_, _/_, _%_, _≤_, _<_}
 use native.Mathlib.Nat.{mod-eq-of-lt, not-suc-le-zero}
 use native.Mathlib.Decide.{ℕ-discrete, decLt}
 use native.Mathlib.Omega.{arith}
@@ -27,11 +27,11 @@ use Rattle.model.proofs.RecordFacts.{Arity}
 use Rattle.constraints.specs.Told.{toldBoth}
 use Rattle.rules.specs.Matching.{at, fits}
 use Rattle.rules.specs.Rows.{levels, speakersOf, padded, phraseOf, rowOf, rowAt, byteOf, field, instanceOf}
-use Rattle.rules.specs.Cond.{Frame, frame, kindAt, headRow, headRecord, bodies, bodyRow, condOf, condAt, condFirst, unbound8}
+use Rattle.rules.specs.Cond.{Frame, frame, kindAt, headRow, headRecord, bodies, bodyRow, factOf, condOf, condAt, condFirst, unbound8}
 use Rattle.rules.proofs.MatchFacts.{Under, HasAll, Ground}
 use Rattle.rules.proofs.KindFacts.{choice-below}
 use Rattle.rules.proofs.ExtendFacts.{L, In, T-true, Over, Binds, long}
-use Rattle.rules.proofs.CondFacts.{follow-of, follow-in, Met, MetLast, match-of, match-in, match-long, cond-of, cond-in}
+use Rattle.rules.proofs.CondFacts.{follow-of, follow-in, Met, MetBy, there, visited, match-of, match-in, match-long, cond-of, cond-in}
 use Rattle.rules.proofs.TestFacts.{early-upto, late-upto, ends-upto, constraint-in, constraint-of, told-in}
 use Rattle.rules.proofs.Good.{Below, SmallFact, Fitting, Good, Heads, good, key-below, below-ground, arity-instance}
 use Rattle.rules.proofs.RoundLaw.{Holds, derived, within}
@@ -111,9 +111,9 @@ unbound-at (suc (suc (suc (suc (suc (suc zero)))))) = refl
 unbound-at (suc (suc (suc (suc (suc (suc (suc zero))))))) = refl
 unbound-at (suc (suc (suc (suc (suc (suc (suc (suc v)))))))) = refl
 
-module _ (W : World) (few : length (W .constants) ≤ 255) (a : Assertion) (P : Proper W a) (rows policy : List ℕ) (from tests : ℕ) (laid : Laid W a rows policy from tests) (round d skip : ℕ) where
+module _ (W : World) (few : length (W .constants) ≤ 255) (a : Assertion) (P : Proper W a) (rows policy : List ℕ) (from tests : ℕ) (laid : Laid W a rows policy from tests) (round d skip early : ℕ) where
   abbrev pub F : Frame
-  F = frame W rows (map (λ (c : Constant). c .kind) (W .constants)) policy from tests round (a .issuer) d skip
+  F = frame W rows (map (λ (c : Constant). c .kind) (W .constants)) policy from tests round (a .issuer) d skip early
 
   abbrev ks : List ℕ
   ks = map (kindsOf W a) variables
@@ -211,15 +211,15 @@ module _ (W : World) (few : length (W .constants) ≤ 255) (a : Assertion) (P : 
       unfolding condAt
       cond-gives q c mq hs m =
           let ls : skip < bodies F = omega (arith, body-count) in
-          let f = follow-of (fits unbound8 (bodyRow F skip) (drop 2 q)) (condOf F t (bodies F)) c m in
+          let f = follow-of (fits unbound8 (bodyRow F skip) (drop 2 q)) (condOf F t 8) c m in
           let l = match-long over t has-rows ground skip unbound8 (f .0) q refl (f .1) in
-          let w = cond-of over t has-rows ground (bodies F) (f .0) c (omega arith) l (f .2) in
+          let w = cond-of over t has-rows ground 8 (f .0) c l (f .2) in
           let g = match-of over t has-rows ground skip unbound8 (f .0) (w .0) q ls mq refl (f .1) (w .1 .1) in
           head-gives (w .0) c (w .1 .0) (w .1 .2) (w .1 .3) (body-old (w .0) (λ i h. all (w .0) (g .1) (w .1 .4) i h (ℕ-discrete i skip)))
         where
-          all : (θ : List ℕ) → Met over t has-rows ground skip θ → MetLast over t has-rows ground (bodies F) θ → (i : ℕ) → i < length (a .body) → Dec (i ≡ skip) → Met over t has-rows ground i θ
+          all : (θ : List ℕ) → Met over t has-rows ground skip θ → MetBy over t has-rows ground 8 θ → (i : ℕ) → i < length (a .body) → Dec (i ≡ skip) → Met over t has-rows ground i θ
           all θ g ms i h (yes e) = subst (λ (j : ℕ). Met over t has-rows ground j θ) (sym e) g
-          all θ g ms i h (no e) = ms i (omega arith) (omega (arith, body-count)) e
+          all θ g ms i h (no e) = let v = visited over t has-rows ground i (omega (arith, body-count)) e in subst (λ (j : ℕ). Met over t has-rows ground j θ) (v .2) (ms (v .0) (v .1) (v .3))
 
       pub cond-given : (q θ : List ℕ) → In q t → skip < length (a .body) → drop 2 q ≡ key (said (a .issuer) d (mapFact (bound θ) (getD (a .body) skip none′)))
           → List·Memᴰ θ (bindingsOf W a) → passing θ ≡ true → ((x : Said) → List·Memᴰ x (bodyOf a d θ) → Within (Rule W 𝒜) n x) → (c : List ℕ) × In c (condAt F t q) × (drop 2 c ≡ key (headOf a d θ))
@@ -229,8 +229,8 @@ module _ (W : World) (few : length (W .constants) ≤ 255) (a : Assertion) (P : 
           let f = match-in over t has-rows ground skip unbound8 θ q ls mq refl (λ v. inl (unbound-at v)) (ap (map (bound θ)) (row-is skip hs) ∙ row-key θ (a .issuer) d (getD (a .body) skip none′) ∙ sym e) in
           let l = match-long over t has-rows ground skip unbound8 (f .0) q refl (f .1) in (
             headRecord F θ,
-            follow-in (fits unbound8 (bodyRow F skip) (drop 2 q)) (condOf F t (bodies F)) (headRecord F θ) (f .0) (f .1)
-                (cond-in over t has-rows ground (bodies F) (f .0) θ (omega arith) l m (f .2) pass (λ i x y z. let h : i < length (a .body) = omega (arith, body-count) in old-met θ i h (old _ (Memᴰ·map (λ (f : Fact Expr). said (a .issuer) d (mapFact (bound θ) f)) (some-at none′ (a .body) i h))))),
+            follow-in (fits unbound8 (bodyRow F skip) (drop 2 q)) (condOf F t 8) (headRecord F θ) (f .0) (f .1)
+                (cond-in over t has-rows ground 8 (f .0) θ l m (f .2) pass (λ j x o. let h : factOf j < length (a .body) = omega (arith, body-count, there over t has-rows ground j o) in old-met θ (factOf j) h (old _ (Memᴰ·map (λ (f : Fact Expr). said (a .issuer) d (mapFact (bound θ) f)) (some-at none′ (a .body) (factOf j) h))))),
             ap (drop 2) (head-is θ m small),
           )
 
@@ -243,7 +243,7 @@ module _ (W : World) (few : length (W .constants) ≤ 255) (a : Assertion) (P : 
         go : (b : Bool) → eqb (bodies F) 0 ≡ b → In c (cond b (condOf F [] 0 unbound8) []) → Gives W 𝒜 heads n c
         go false e m = absurd (List·Memᴰ·not-nil m)
         go true e m =
-            let w = cond-of over [] has-rows (λ q h. absurd (List·Memᴰ·not-nil h)) 0 unbound8 c zero-le refl m in
+            let w = cond-of over [] has-rows (λ q h. absurd (List·Memᴰ·not-nil h)) 0 unbound8 c refl m in
             head-gives (w .0) c (w .1 .0) (w .1 .2) (w .1 .3) (λ x h. absurd (none-there x (w .0) h))
           where
             none-there : (x : Said) (θ : List ℕ) → List·Memᴰ x (bodyOf a d θ) → ⊥
@@ -257,6 +257,6 @@ module _ (W : World) (few : length (W .constants) ≤ 255) (a : Assertion) (P : 
     unfolding condFirst
     first-given θ z m pass = (
       headRecord F θ,
-      rw (eq-eqb (bodies F) 0 (body-count ∙ z)) (cond-in over [] has-rows (λ q h. absurd (List·Memᴰ·not-nil h)) 0 unbound8 θ zero-le refl m (λ v. inl (unbound-at v)) pass (λ i x y n. absurd (omega (arith, body-count)))),
+      rw (eq-eqb (bodies F) 0 (body-count ∙ z)) (cond-in over [] has-rows (λ q h. absurd (List·Memᴰ·not-nil h)) 0 unbound8 θ refl m (λ v. inl (unbound-at v)) pass (λ j h o. absurd (not-suc-le-zero h))),
       ap (drop 2) (head-is θ m small),
     )
