@@ -1,0 +1,6 @@
+pub mod Blocks
+pub mod RecordLength
+pub mod Numbers
+pub mod Sides
+pub mod Holding
+pub mod Demands

@@ -1,0 +1,19 @@
+use borrow.Author.Needs.{needs}
+use Rattle.outcome.proofs.Lines.{side-policy, side-request, side-none}
+use Rattle.outcome.proofs.side_word.Statement.{statement}
+use Rattle.outcome.proofs.side_word.Tie as tie
+
+pub side-word-spec : {M : Type 1} → statement M
+side-word-spec = tie.close (tie.spec
+    (λ c. search needs)
+    (λ c κs. search needs)
+    (λ c. search needs)
+    (λ c. let start = c .before .before .before .before .before .before .before in side-policy (start .args .at) (start .args .side) (c .before .before .before .before .before .if1 .taken) (c .before .before .word .ensures))
+    (λ c. search needs)
+    (λ c κs. search needs)
+    (λ c. search needs)
+    (λ c. let start = c .before .before .before .before .before .before .before .before in side-request (start .args .at) (start .args .side) (c .before .before .before .before .before .if2 .taken) (c .before .before .word2 .ensures))
+    (λ c. search needs)
+    (λ c κs. search needs)
+    (λ c. search needs)
+    (λ c. let start = c .before .before .before .before .before .before .before .before in side-none (start .args .at) (start .args .side) (c .before .before .before .before .before .before .if1 .left) (c .before .before .before .before .before .if2 .left) (c .before .before .word3 .ensures)))
