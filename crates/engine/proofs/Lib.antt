@@ -1,0 +1,6 @@
+pub mod Asking
+pub mod Deciding
+pub mod Accepting
+pub mod Answering
+pub mod Refusing
+pub mod Reporting
