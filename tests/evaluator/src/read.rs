@@ -56,6 +56,16 @@ pub struct Policy {
     pub assertions: Vec<Assertion>,
 }
 
+impl Policy {
+    /// The label of a principal or thing, empty for other kinds and numbers not present.
+    pub fn label(&self, constant: usize) -> &[u8] {
+        match self.constants.get(constant) {
+            Some((_, Value::Label(l))) => l,
+            _ => &[],
+        }
+    }
+}
+
 #[derive(Debug, Clone)]
 pub enum Node {
     Says(Expr, Fact),

@@ -1,0 +1,17 @@
+/* The peer: a plain evaluator of the derivation. */
+#ifndef PEER_H
+#define PEER_H
+
+#include <stdbool.h>
+#include <stddef.h>
+#include <stdint.h>
+
+typedef struct {
+    bool full; /* more facts than there is room for */
+    uint32_t facts, rounds;
+} peer_report;
+
+/* The fact table of an accepted policy and request in the lent buffer, then 0. */
+peer_report peer_derive(const uint8_t *policy, const uint8_t *request, uint8_t *facts, size_t facts_len);
+
+#endif
