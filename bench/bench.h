@@ -2,20 +2,10 @@
 #ifndef BENCH_H
 #define BENCH_H
 
-#include <stddef.h>
-#include <stdint.h>
-
-/* decision: 0 refused, 1 allow, 2 deny */
-typedef struct {
-    uint32_t decision, refusal, side, facts, rounds;
-    uint64_t place, answers;
-} secpal_report;
-
-secpal_report secpal_decide(const uint8_t *policy, size_t policy_len, const uint8_t *request, size_t request_len,
-                            uint8_t *facts, size_t facts_len, uint8_t *answers, size_t answers_len);
+#include "../host/secpal.h"
 
 enum {
-    FACTS_LEN = 1048560, /* room for 65,535 records, the most that count */
+    FACTS_LEN = SECPAL_RECORD * SECPAL_RECORDS, /* room for all records that count */
     ANSWERS_LEN = 65536,
     FILE_LEN = 65536 /* the most that is read of a file */
 };
