@@ -9,7 +9,13 @@ use Rattle.model.specs.Decision.{decisionOn, decisionBy, decision}
 use Rattle.model.specs.Cases.{Belt, Turnings, Readings}
 
 rows : Belt × Turnings × Readings
-unfolding u16At u32At bytesAt choose both andThen itemEnd constantAt verbAt exprOf exprsAt constraintsAt arityOf levelsAt levelsEnd factAt factEnd factsAt factsEnd bodyAt testsAt assertionAt assertionEnd sortOf endsBy nodesBy endBy nodeEnd nodeBy nodeAt labelForm itemThere numberForm valueForm constantForm signatureForm verbForm thenForm operatorForm operatorsForm phraseForm levelsForm factForm factsForm testsForm bodyForm statementForm assertionForm versionThere lengthRight headed ended itemsFrom listAt constantItem verbItem judged assertionBy assertionItem assertionsFrom verbsFrom constantsFrom readPolicy partsForm variableForm checkParts fitted checkSays checkTest checkBy checkNode safely requestFrom readRequest decisionOn decisionBy decision
+unfolding
+    u16At u32At bytesAt choose both andThen
+    itemEnd constantAt verbAt exprOf exprsAt constraintsAt arityOf levelsAt levelsEnd factAt factEnd factsAt factsEnd bodyAt testsAt assertionAt assertionEnd sortOf endsBy nodesBy endBy nodeEnd nodeBy nodeAt
+    labelForm itemThere numberForm valueForm constantForm signatureForm verbForm thenForm operatorForm operatorsForm phraseForm levelsForm factForm factsForm testsForm bodyForm statementForm assertionForm
+    versionThere lengthRight headed ended itemsFrom listAt constantItem verbItem judged assertionBy assertionItem assertionsFrom verbsFrom constantsFrom readPolicy
+    partsForm variableForm checkParts fitted checkSays checkTest checkBy checkNode safely requestFrom readRequest
+    decisionOn decisionBy decision
 rows = (refl, refl, refl)
 
 pub belt : Belt

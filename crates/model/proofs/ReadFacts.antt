@@ -17,9 +17,9 @@ use Rattle.model.specs.Bytes.{choose, Reading, got, refused, andThen}
 use Rattle.model.specs.Readings.{arityOf, exprsAt, exprAt, levelsAt, factAt, assertionAt}
 use Rattle.model.specs.Forms.{Form, ends, broken, noVerb, assertionForm}
 use Rattle.model.specs.Policies.{Item, contents, headed, ended, itemsFrom, listAt, judged, assertionBy, assertionItem, Accepted, policyOf, assertionsFrom, verbsFrom, constantsFrom, readPolicy}
+use Rattle.model.specs.Records.{Arity}
 use Rattle.model.proofs.ListFacts.{and-of, any-of, all-of}
 use Rattle.model.proofs.BindingFacts.{picks-of}
-use Rattle.model.proofs.RecordFacts.{Arity}
 use Rattle.model.proofs.Inside.{Placed}
 
 -- ---- what must have been read before
@@ -77,12 +77,13 @@ pub record Fine (cs : List Constant) (vs : List Verb) (a : Assertion) : Type 0 w
   pub safe : T (safeAssertion a)
   pub arity : Arity vs (a .head)
 
-exprs-length : (n : ℕ) (s : List ℕ) (p : ℕ) → length (exprsAt n s p) ≡ n
+-- whatever stands at an offset, it is read with the number of parameters that its verb asks for
+pub exprs-length : (n : ℕ) (s : List ℕ) (p : ℕ) → length (exprsAt n s p) ≡ n
 unfolding exprsAt
 exprs-length zero s p = refl
 exprs-length (suc n) s p = ap suc (exprs-length n s (p + 2))
 
-levels-arity : (vs : List Verb) (m : ℕ) (s : List ℕ) (p : ℕ) → Arity vs (levelsAt vs m s p)
+pub levels-arity : (vs : List Verb) (m : ℕ) (s : List ℕ) (p : ℕ) → Arity vs (levelsAt vs m s p)
 unfolding levelsAt arityOf
 levels-arity vs zero s p = exprs-length _ s (p + 3)
 levels-arity vs (suc m) s p = levels-arity vs m s (p + 3)

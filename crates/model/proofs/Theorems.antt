@@ -15,7 +15,7 @@ use Rattle.model.specs.Values.{choices}
 use Rattle.model.specs.Closure.{Derives, First}
 use Rattle.model.specs.Rules.{Rule}
 use Rattle.model.specs.Requests.{issuers, kindsIn, freeKinds, bindingsIn}
-use Rattle.model.specs.Records.{Entry, keyOf, recordOf, answersBytes}
+use Rattle.model.specs.Records.{Entry, keyOf, recordOf, answersBytes, Arity}
 use Rattle.model.specs.Meant.{Outcome, tooManyFacts, tooManyAnswers, decided, MoreThan, AtMost, Enumerates, Derivable, FirstIn, Satisfies, itself, Meant, fullTable, fullAnswers, allListed}
 use Rattle.model.specs.Steps.{eqSaid, step}
 use Rattle.model.specs.Reached.{issuedIn, reach, counting}
@@ -32,7 +32,7 @@ use Rattle.model.proofs.RoundFacts as S
 use Rattle.model.proofs.BindingFacts.{bindings-of}
 use Rattle.model.proofs.StepFacts.{eqSaid-of, eqSaid-refl, step-of, step-in}
 use Rattle.model.proofs.ReachFacts.{reach-of, reach-in, reach↔}
-use Rattle.model.proofs.RecordFacts.{Arity, fits, same-key}
+use Rattle.model.proofs.RecordFacts.{fits, same-key}
 use Rattle.model.proofs.OutcomeFacts.{clash, meant-unique, meant, same-entry}
 use Rattle.model.proofs.Outside.{counting-same}
 use Rattle.model.proofs.Inside.{inside}

@@ -9,7 +9,7 @@ use lib.Dec.{T, eqb, leb, ltb, eqb·suc-zero}
 use lib.ListN.{length}
 use borrow.Author.Tests.{ltb-false}
 use Rattle.model.proofs.ListFacts.{each-of, each-in, and-of}
-use Rattle.model.proofs.RecordFacts.{Arity}
+use Rattle.model.proofs.ReadFacts.{levels-arity}
 use Rattle.wire.proofs.Reading.{choose-true, choose-false}
 use Rattle.model.specs.Limits.{principal, maxBody, maxConstraints}
 use Rattle.model.specs.Lists.{all, each, among}
@@ -17,10 +17,11 @@ use Rattle.model.specs.Syntax.{Expr, Fact, flat, canSay, Constraint, Assertion,
 use Rattle.model.specs.Kinds.{Demands, kindAt, paramKinds, pair, places, demandsOf, occurring, fitting, fitsAssertion}
 use Rattle.model.specs.Safety.{isFlat, safeHead, safeAssertion}
 use Rattle.model.specs.Bytes.{byteAt, u16At, choose, both, Reading, got, refused, andThen}
-use Rattle.model.specs.Readings.{exprAt, constraintsAt, levelsAt, exprsAt, arityOf, factAt, factEnd, factsAt, factsEnd, bodyAt, testsAt, assertionAt, assertionEnd}
+use Rattle.model.specs.Readings.{exprAt, constraintsAt, levelsAt, factAt, factEnd, factsAt, factsEnd, bodyAt, testsAt, assertionAt, assertionEnd}
 use Rattle.model.specs.Forms as forms
 use Rattle.model.specs.Forms.{ends, broken, noVerb, thenForm, operatorsForm, factForm, factsForm, testsForm, bodyForm, statementForm, assertionForm}
 use Rattle.model.specs.Policies.{judged, assertionBy, assertionItem}
+use Rattle.model.specs.Records.{Arity}
 use Rattle.kinds.specs.Cells.{Ask, feed, nothing}
 use Rattle.kinds.specs.Asks.{askPlace, askTest, asksFor, Regular}
 use Rattle.kinds.proofs.Model.{fits, fits-low}
@@ -152,16 +153,6 @@ module _ {cs : List Constant} {vs : List Verb} {ks sg : List ℕ} (X : Tables cs
   fits-is S = both-and _ _ (ap (λ (k : ℕ). eqb k principal) (X .kinds (u16At s (at + 6)))) (ap (λ (qs : List Ask). feed qs nothing .ok) asks-are ∙ fits cs (demandsOf vs stated) (regular S))
 
 -- ---- safety: a variable of a fact stands in one of its places
-
-exprs-length : (n : ℕ) (s : List ℕ) (p : ℕ) → length (exprsAt n s p) ≡ n
-unfolding exprsAt
-exprs-length zero s p = refl
-exprs-length (suc n) s p = ap suc (exprs-length n s (p + 2))
-
-levels-arity : (vs : List Verb) (m : ℕ) (s : List ℕ) (p : ℕ) → Arity vs (levelsAt vs m s p)
-unfolding levelsAt arityOf
-levels-arity vs zero s p = exprs-length _ s (p + 3)
-levels-arity vs (suc m) s p = levels-arity vs m s (p + 3)
 
 paired : (ks : List ℕ) (es : List Expr) (e : Expr) → length es ≡ length ks → List·Memᴰ e es → (k : ℕ) × List·Memᴰ (k, e) (pair ks es)
 paired [] es e l m = absurd (none-there es l m)

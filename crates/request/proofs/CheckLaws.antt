@@ -10,11 +10,11 @@ use borrow.Author.Tests.{leb-true}
 use Rattle.model.specs.Syntax.{Constant, Verb, Node, Nodes, says, test, allOf, anyOf, non, exists, end, more}
 use Rattle.model.specs.Kinds.{Demands, noDemands, joined, demandsIn, demandsAll, fitting}
 use Rattle.model.specs.Bytes.{byteAt, Reading, got}
-use Rattle.model.specs.Readings.{exprAt, exprsAt, factAt, factEnd, levelsAt, arityOf, constraintAt, Sort, saysSort, testSort, allSort, anySort, notSort, existsSort, noSort, sortOf, endsBy, nodesBy, endBy, nodeEnd, nodeBy, nodeAt}
+use Rattle.model.specs.Readings.{exprAt, factAt, factEnd, constraintAt, Sort, saysSort, testSort, allSort, anySort, notSort, existsSort, noSort, sortOf, endsBy, nodesBy, endBy, nodeEnd, nodeBy, nodeAt}
 use Rattle.model.specs.Forms.{Form, ends, broken, noVerb, factForm}
 use Rattle.model.specs.Nodes.{partsForm, variableForm, checkParts, fitted, checkSays, checkTest, checkBy, checkNode}
-use Rattle.model.proofs.RecordFacts.{Arity}
-use Rattle.model.proofs.ReadFacts.{never, choose-yes, choose-no, andThen-got}
+use Rattle.model.specs.Records.{Arity}
+use Rattle.model.proofs.ReadFacts.{never, choose-yes, choose-no, andThen-got, levels-arity}
 use Rattle.wire.proofs.Reading.{both-first, both-second}
 use Rattle.phrases.proofs.Ends.{form-ends}
 
@@ -46,19 +46,9 @@ module _ (vs : List Verb) where
     SoundAll end = Unit {0}
     SoundAll (more n ns) = Sound n × SoundAll ns
 
-  exprs-length : (n : ℕ) (s : List ℕ) (p : ℕ) → length (exprsAt n s p) ≡ n
-  unfolding exprsAt
-  exprs-length zero s p = refl
-  exprs-length (suc n) s p = ap suc (exprs-length n s (p + 2))
-
-  levels-arity : (m : ℕ) (s : List ℕ) (p : ℕ) → Arity vs (levelsAt vs m s p)
-  unfolding levelsAt arityOf
-  levels-arity zero s p = exprs-length _ s (p + 3)
-  levels-arity (suc m) s p = levels-arity m s (p + 3)
-
   fact-arity : (s : List ℕ) (p : ℕ) → Arity vs (factAt vs s p)
   unfolding factAt
-  fact-arity s p = levels-arity (byteAt s p) s (p + 1)
+  fact-arity s p = levels-arity vs (byteAt s p) s (p + 1)
 
   -- ---- what reading makes sure of
 

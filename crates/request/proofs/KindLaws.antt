@@ -15,8 +15,8 @@ use Rattle.model.specs.Syntax.{Expr, con, var, today, Fact, flat, canSay, Verb,
 use Rattle.model.specs.Kinds.{pair, paramKinds, places, demandsIn, demandsAll, isVar, kindOf}
 use Rattle.model.specs.Requests.{free, freeAll}
 use Rattle.model.specs.Safety.{provided, onward, known, knownAll, knownAny, binders, bindersAll}
+use Rattle.model.specs.Records.{Arity}
 use Rattle.model.proofs.ListFacts.{all-of, each-of, each-in, keep-of, keep-in, member-of, member-in}
-use Rattle.model.proofs.RecordFacts.{Arity}
 use Rattle.request.proofs.CheckLaws.{Some, Sound, SoundAll}
 
 -- ---- places

@@ -8,26 +8,26 @@ use lib.ListN.{getD}
 use Rattle.model.specs.Syntax.{Fact, flat, canSay, Assertion, Said, said}
 use Rattle.model.specs.Closure.{Within, First}
 use Rattle.model.specs.Rules.{Rule}
-use Rattle.model.specs.Records.{key}
+use Rattle.model.specs.Records.{key, Fitting}
 use Rattle.model.proofs.ClosureFacts.{within-mono}
 use Rattle.index.specs.Index.{valuesOf}
 use Rattle.index.proofs.Laws.{values-of, values-in}
 use Rattle.rules.specs.Uses.{stampOf}
 use Rattle.rules.specs.Rounds.{Pairs, Program, actKey, quoteKey, notedAll}
+use Rattle.rules.specs.Held.{rec, Holds, Bytes, Fed}
+use Rattle.rules.specs.Laid.{Lays}
 use Rattle.rules.proofs.ExtendFacts.{L, In}
 use Rattle.rules.proofs.RoundLaw.{sorts, first-within}
-use Rattle.rules.proofs.Good.{Fitting}
-use Rattle.rules.proofs.UseFacts.{rec, keyed, fitting, same}
-use Rattle.rules.proofs.UseFacts as U
-use Rattle.rules.proofs.RoundFacts.{Lays, Hd, heads, Fed}
+use Rattle.rules.proofs.UseFacts.{keyed, fitting, same}
+use Rattle.rules.proofs.RoundFacts.{heads}
 use Rattle.rounds.proofs.Noting.{Enters, act, quote, noted-of, noted-keeps, noted-in}
 use Rattle.rounds.proofs.Facts.{rec-stamp, fact-good, first-derives, table-ranged, table-first}
 
-byte-of : (l : List ℕ) → U.Bytes l → (v : ℕ) → List·Memᴰ v l → v < 256
+byte-of : (l : List ℕ) → Bytes l → (v : ℕ) → List·Memᴰ v l → v < 256
 byte-of l b v (List·Memᴰ·head e) = rw e (b .0)
 byte-of l b v (List·Memᴰ·tail {xs = m} h) = byte-of m (b .1) v h
 
-byte-in : (l : List ℕ) → ((v : ℕ) → List·Memᴰ v l → v < 256) → U.Bytes l
+byte-in : (l : List ℕ) → ((v : ℕ) → List·Memᴰ v l → v < 256) → Bytes l
 byte-in [] h = tt
 byte-in (x ∷ l) h = (h x (List·Memᴰ·head refl), byte-in l (λ v m. h v (List·Memᴰ·tail m)))
 
@@ -36,11 +36,11 @@ module _ (G : Program) (𝒜 : List Assertion) (lays : Lays G 𝒜) where
   R = Rule (G .world) 𝒜
 
   -- nothing is in the index before round 1
-  pub fed-none : Fed G 𝒜 lays 0 [] []
+  pub fed-none : Fed (G .world) 𝒜 0 [] []
   unfolding valuesOf
   fed-none = record { quotes = λ a b k f w. absurd w; bytes = λ i. tt; actors = λ a d b c w. absurd w; only = λ a d b c h k l m. absurd (List·Memᴰ·not-nil m) }
 
-  module _ (n : ℕ) (t : L) (H : Hd G 𝒜 lays (suc n) t) (P : Pairs) (F : Fed G 𝒜 lays n P P) where
+  module _ (n : ℕ) (t : L) (H : Holds R rec (suc n) t) (P : Pairs) (F : Fed (G .world) 𝒜 n P P) where
     abbrev P′ : Pairs
     P′ = notedAll (suc n) t P
 
@@ -62,7 +62,7 @@ module _ (G : Program) (𝒜 : List Assertion) (lays : Lays G 𝒜) where
     actors a d b c w =
         ⊎-elim (λ h. kept (actKey a d c) b (F .actors a d b c h)) (λ h. added (said a d (flat b 0 (c ∷ []))) h (actKey a d c) b (act refl refl refl)) (sort (said a d (flat b 0 (c ∷ []))) w)
 
-    bytes : (i : ℕ) → U.Bytes (valuesOf i P′)
+    bytes : (i : ℕ) → Bytes (valuesOf i P′)
     bytes i = byte-in (valuesOf i P′) (λ v m. ⊎-elim (λ h. byte-of (valuesOf i P) (F .bytes i) v (values-in i h)) (λ (h : (q : List ℕ) × In q t × (stampOf q ≡ suc n) × Enters q (i, v)). new v (h .0) (h .1) (h .3)) (noted-of (suc n) t P (i, v) (values-of i P′ m)))
       where
         new : (v : ℕ) (q : List ℕ) → In q t → Enters q (i, v) → v < 256
@@ -105,5 +105,5 @@ module _ (G : Program) (𝒜 : List Assertion) (lays : Lays G 𝒜) where
             let low : getD q 6 0 < 255 = table-ranged G 𝒜 lays (suc n) t H q m .low 6 (omega arith) in
             absurd (omega arith)
 
-    pub fed-more : Fed G 𝒜 lays (suc n) (notedAll (suc n) t P) (notedAll (suc n) t P)
+    pub fed-more : Fed (G .world) 𝒜 (suc n) (notedAll (suc n) t P) (notedAll (suc n) t P)
     fed-more = record { quotes = quotes; bytes = bytes; actors = actors; only = only }

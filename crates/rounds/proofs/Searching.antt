@@ -11,9 +11,9 @@ use lib.ListN.{length, drop, take, replicate, length-drop, length-append, length
 use lib.Seq.{getD-drop}
 use lib.Dec.{ltb}
 use borrow.Author.Tests.{le-ltb, ltb-false}
+use Rattle.rules.specs.Held as held
 use Rattle.rules.proofs.ExtendFacts.{L, In}
 use Rattle.rules.proofs.RoundLaw.{Known, News, Joins, Apart}
-use Rattle.rules.proofs.UseFacts as U
 use Rattle.rules.proofs.UseFacts.{Searches}
 use Rattle.table.specs.Table.{digits, keyOf, Ascending, has, hasKey, between, insertAll, putAll}
 use Rattle.table.proofs.Model.{Bytes, digits-inj}
@@ -32,7 +32,7 @@ AllKeyed t = (q : List ℕ) → In q t → Keyed q
 pub whole-keyed : (q : List ℕ) → Whole q → Keyed q
 whole-keyed q w = record { long = omega (arith, length-drop 2 q, w .long); bytes = λ k. rw (getD-drop 2 q k 0) (w .bytes (2 + k)) }
 
-pub bytes-at : (l : List ℕ) → U.Bytes l → Bytes l
+pub bytes-at : (l : List ℕ) → held.Bytes l → Bytes l
 bytes-at [] b k = omega arith
 bytes-at (x ∷ l) b zero = b .0
 bytes-at (x ∷ l) b (suc k) = bytes-at l (b .1) k
@@ -84,14 +84,14 @@ filled P k v = P ++ replicate k v
 length-filled : (P : List ℕ) (k v : ℕ) → length (filled P k v) ≡ length P + k
 length-filled P k v = length-append P (replicate k v) ∙ ap (λ (n : ℕ). length P + n) (length-replicate k v)
 
-bytes-filled : (P : List ℕ) (k v : ℕ) → U.Bytes P → v < 256 → Bytes (filled P k v)
+bytes-filled : (P : List ℕ) (k v : ℕ) → held.Bytes P → v < 256 → Bytes (filled P k v)
 bytes-filled [] zero v b h i = omega arith
 bytes-filled [] (suc k) v b h zero = h
 bytes-filled [] (suc k) v b h (suc i) = bytes-filled [] k v b h i
 bytes-filled (x ∷ P) k v b h zero = b .0
 bytes-filled (x ∷ P) k v b h (suc i) = bytes-filled P k v (b .1) h i
 
-begins-of : (a : ℕ) (P xs : List ℕ) (k : ℕ) → length xs ≡ length P + k → U.Bytes P → Bytes xs → digits a (filled P k 0) ≤ digits a xs → digits a xs ≤ digits a (filled P k 255) → take (length P) xs ≡ P
+begins-of : (a : ℕ) (P xs : List ℕ) (k : ℕ) → length xs ≡ length P + k → held.Bytes P → Bytes xs → digits a (filled P k 0) ≤ digits a xs → digits a xs ≤ digits a (filled P k 255) → take (length P) xs ≡ P
 unfolding digits
 begins-of a [] xs k e b c l h = refl
 begins-of a (p ∷ P) [] k e b c l h = absurd (omega arith)

@@ -9,18 +9,21 @@ use lib.ListN.{length, getD, drop, take, replicate}
 use lib.Dec.{T, eqb, ltb, eqb·suc-zero}
 use Rattle.model.specs.Lists.{only, each}
 use Rattle.model.specs.Syntax.{Fact, flat, canSay, subject, about, Said, said, Assertion, World}
-use Rattle.model.specs.Records.{key, nest, recordOf}
+use Rattle.model.specs.Records.{key, nest, recordOf, Fitting}
 use Rattle.model.specs.Closure.{Derives, Within, First, Use}
 use Rattle.model.specs.Rules.{Rule, canSays, actsAs}
 use Rattle.model.proofs.ListFacts.{each-of, each-in, only-of, only-in, and-of}
 use Rattle.model.proofs.StepFacts.{about-subject}
 use Rattle.model.proofs.ClosureFacts.{within→derives}
+use Rattle.rows.specs.Rows.{Formed}
 use Rattle.rules.specs.Uses.{topOf, aboutOf, flatLow, flatHigh, quoteLow, quoteHigh, actRange, actFirst, actSecond}
+use Rattle.rules.specs.Held.{Holds, rec, Bytes}
+use Rattle.rules.specs.Proper.{Heads, SmallFact}
 use Rattle.rules.proofs.ExtendFacts.{L, In, T-true}
-use Rattle.rules.proofs.RoundLaw.{Known, Holds, derived, first-within}
-use Rattle.rules.proofs.Shapes.{Formed, about-key, top-key}
-use Rattle.rules.proofs.Good.{Fitting, Good, Heads, good, SmallFact}
-use Rattle.rules.proofs.UseFacts.{rec, Bytes, Searches, keyed, fitting, same, Hold, Gives, Old, in-old, old-good, gives, both}
+use Rattle.rules.proofs.RoundLaw.{Known, derived, first-within}
+use Rattle.rules.proofs.Shapes.{about-key, top-key}
+use Rattle.rules.proofs.Good.{Good, good}
+use Rattle.rules.proofs.UseFacts.{Searches, keyed, fitting, same, Gives, Old, in-old, old-good, gives, both}
 
 -- a says at depth d something about c: its places begin with these
 abbrev flatFront : ℕ → ℕ → ℕ → List ℕ
@@ -47,7 +50,7 @@ one-parameter (c ∷ []) e = (c, refl)
 one-parameter (c ∷ b ∷ ps) e = absurd (omega arith)
 
 module _ (W : World) (𝒜 : List Assertion) (heads : (a : Assertion) → List·Memᴰ a 𝒜 → Heads W a)
-    (n : ℕ) (t : L) (H : Hold W 𝒜 heads n t) (hi lo : ℕ) (stamped : suc n < 65536 → (hi ≡ suc n / 256) × (lo ≡ suc n % 256))
+    (n : ℕ) (t : L) (H : Holds (Rule W 𝒜) rec n t) (hi lo : ℕ) (stamped : suc n < 65536 → (hi ≡ suc n / 256) × (lo ≡ suc n % 256))
     (has : List ℕ → Bool) (inside : List ℕ → List ℕ → List ℕ → Bool) (S : Searches t has inside) where
   abbrev O : Said → Type 0
   O = Old W 𝒜 heads n t H hi lo stamped has inside S

@@ -3,7 +3,7 @@ use mathlib.Core.Path.{_≡_, refl, sym, ap, ap₂, subst, _∙_}
 use mathlib.Core.Logic.{_⊎_, inl, inr, ⊎-elim, _≢_}
 use mathlib.Core.Bool.{Bool, true, false, cond, true≢false}
 use mathlib.Core.Option.{Option, none, some}
-use mathlib.Core.List.{List, [], _∷_, _++_, map, map-append, List·Memᴰ, List·Memᴰ·head, List·Memᴰ·tail, List·Memᴰ·not-nil, List·Memᴰ·cases-cons, List·Memᴰ·eq-of-singleton, Memᴰ·cast, Memᴰ·map, Memᴰ·of-map}
+use mathlib.Core.List.{List, [], _∷_, map, List·Memᴰ, List·Memᴰ·head, List·Memᴰ·tail, List·Memᴰ·not-nil, List·Memᴰ·cases-cons, List·Memᴰ·eq-of-singleton, Memᴰ·cast, Memᴰ·map, Memᴰ·of-map}
 use Prim.Native.Nat.{ℕ, zero, suc, _+_, _*_, _-_, _/_, _%_, _≤_, _<_}
 use native.Mathlib.Nat.{mod-eq-of-lt, not-suc-le-zero}
 use native.Mathlib.Decide.{ℕ-discrete, decLt}
@@ -12,84 +12,46 @@ use lib.ListN.{length, getD, drop, List·getD-map}
 use lib.Dec.{T, eqb, ltb}
 use borrow.Author.Tests.{lt-ltb, le-ltb, eq-eqb, ne-eqb, eqb-true}
 use Rattle.model.specs.Limits.{unbound}
-use Rattle.model.specs.Lists.{all, pad}
-use Rattle.model.specs.Syntax.{Expr, con, var, today, Fact, flat, canSay, mapFact, Constraint, Constant, Assertion, World, Said, said, varsTest}
+use Rattle.model.specs.Lists.{all}
+use Rattle.model.specs.Syntax.{Expr, con, var, Fact, mapFact, Constraint, Constant, Assertion, World, Said, said}
 use Rattle.model.specs.Kinds.{variables}
 use Rattle.model.specs.Values.{bound, choices, kindsOf, bindings, bindingsOf, passes}
-use Rattle.model.specs.Readings.{constraintAt, constraintsAt}
+use Rattle.model.specs.Readings.{constraintAt}
 use Rattle.model.specs.Closure.{Derives, Within, First, Use}
 use Rattle.model.specs.Rules as R
 use Rattle.model.specs.Rules.{Rule, depths, headOf, bodyOf}
-use Rattle.model.specs.Records.{key, nest, speakers, phrase, recordOf}
+use Rattle.model.specs.Records.{key, recordOf, Fitting}
 use Rattle.model.proofs.ListFacts.{all-of, all-in}
 use Rattle.model.proofs.BindingFacts.{at-variable, bindings-of}
-use Rattle.model.proofs.RecordFacts.{Arity}
+use Rattle.model.proofs.RecordFacts.{arity-map}
 use Rattle.constraints.specs.Told.{toldBoth}
+use Rattle.rows.specs.Laid.{noFact}
+use Rattle.rows.specs.Rows.{rowOf}
+use Rattle.rows.proofs.RowFacts.{row-key}
 use Rattle.rules.specs.Matching.{at, fits}
-use Rattle.rules.specs.Rows.{levels, speakersOf, padded, phraseOf, rowOf, rowAt, byteOf, field, instanceOf}
 use Rattle.rules.specs.Cond.{Frame, frame, kindAt, headRow, headRecord, bodies, bodyRow, factOf, condOf, condAt, condFirst, unbound8}
-use Rattle.rules.proofs.MatchFacts.{Under, HasAll, Ground}
+use Rattle.rules.specs.Uses.{stampOf}
+use Rattle.rules.specs.Proper.{Proper, HasAll, Below, SmallFact, Heads}
+use Rattle.rules.specs.Laid.{Laid}
+use Rattle.rules.specs.Instances.{byteOf, field, instanceOf}
+use Rattle.rules.specs.Held.{Holds, rec}
+use Rattle.rules.proofs.MatchFacts.{Under, Ground}
 use Rattle.rules.proofs.KindFacts.{choice-below}
 use Rattle.rules.proofs.ExtendFacts.{L, In, T-true, Over, Binds, long}
-use Rattle.rules.proofs.CondFacts.{follow-of, follow-in, Met, MetBy, there, visited, match-of, match-in, match-long, cond-of, cond-in}
+use Rattle.rules.proofs.CondFacts.{follow-of, follow-in, not-new, Met, MetBy, there, visited, match-of, match-in, match-long, cond-of, cond-in}
 use Rattle.rules.proofs.TestFacts.{early-upto, late-upto, ends-upto, constraint-in, constraint-of, told-in}
-use Rattle.rules.proofs.Good.{Below, SmallFact, Fitting, Good, Heads, good, key-below, below-ground, arity-instance}
-use Rattle.rules.proofs.RoundLaw.{Holds, derived, within}
-use Rattle.rules.proofs.UseFacts.{rec, keyed, fitting, same, Hold, Gives}
+use Rattle.rules.proofs.Good.{Good, good, key-below, below-ground}
+use Rattle.rules.proofs.RoundLaw.{derived, within}
+use Rattle.rules.proofs.UseFacts.{keyed, fitting, same, Gives}
 
--- ---- a row's instance is the instance's key
+-- ---- where constants are below 255, a record has them as they are
 
 module _ (θ : List ℕ) where
-  map-padded : (n : ℕ) (l : List Expr) → map (bound θ) (padded n l) ≡ pad n (map (bound θ) l)
-  map-padded zero l = refl
-  map-padded (suc n) [] = ap (_∷_ 0) (map-padded n [])
-  map-padded (suc n) (x ∷ l) = ap (_∷_ (bound θ x)) (map-padded n l)
-
-  same-nest : (f : Fact Expr) → levels f ≡ nest (mapFact (bound θ) f)
-  same-nest (flat s v ps) = refl
-  same-nest (canSay s d f) = ap suc (same-nest f)
-
-  same-speakers : (f : Fact Expr) → map (bound θ) (speakersOf f) ≡ speakers (mapFact (bound θ) f)
-  same-speakers (flat s v ps) = refl
-  same-speakers (canSay s d f) = ap (λ (l : List ℕ). bound θ s ∷ d ∷ l) (same-speakers f)
-
-  same-phrase : (f : Fact Expr) → map (bound θ) (phraseOf f) ≡ phrase (mapFact (bound θ) f)
-  same-phrase (flat s v ps) = ap (λ (l : List ℕ). bound θ s ∷ v ∷ l) (map-padded 3 ps)
-  same-phrase (canSay s d f) = same-phrase f
-
-  pub row-key : (a d : ℕ) (f : Fact Expr) → map (bound θ) (con a ∷ con d ∷ rowOf f) ≡ key (said a d (mapFact (bound θ) f))
-  unfolding rowOf
-  row-key a d f = ap₂ (λ (n : ℕ) (l : List ℕ). a ∷ d ∷ n ∷ l) (same-nest f)
-      (map-append (bound θ) (padded 6 (speakersOf f)) (phraseOf f) ∙ ap₂ _++_ (map-padded 6 (speakersOf f) ∙ ap (pad 6) (same-speakers f)) (same-phrase f))
-
   fields : (es : List Expr) → Below (map (bound θ) es) → map (field θ) es ≡ map (bound θ) es
   fields [] b = refl
   fields (e ∷ es) b = ap₂ _∷_ (mod-eq-of-lt (let h : bound θ e < 255 = b .0 in omega arith)) (fields es (b .1))
 
 -- ---- an assertion in rows
-
-abbrev pub none′ : Fact Expr
-none′ = flat today 0 []
-
--- the assertion stands in the rows from `at` on, and its constraints in the policy from `tests` on
-pub record Laid (W : World) (a : Assertion) (rows policy : List ℕ) (at tests : ℕ) : Type 0 where
-  pub issuer : getD rows at 0 ≡ a .issuer
-  pub count : getD rows (at + 1) 0 ≡ length (a .body)
-  pub four : length (a .body) ≤ 4
-  pub head : rowAt rows (at + 11) ≡ rowOf (a .head)
-  pub body : (i : ℕ) → i < length (a .body) → rowAt rows (at + 23 + 12 * i) ≡ rowOf (getD (a .body) i none′)
-  pub kinds : (v : ℕ) → v < 8 → getD rows (at + 3 + v) 0 ≡ kindsOf W a v
-  pub tested : a .tests ≡ constraintsAt (getD rows (at + 2) 0) policy tests
-
--- what is asked of an assertion beside its head
-pub record Proper (W : World) (a : Assertion) : Type 0 where
-  pub heads : Heads W a
-  pub arities : (f : Fact Expr) → List·Memᴰ f (a .body) → Arity (W .verbs) f
-  pub rows : (f : Fact Expr) → List·Memᴰ f (a .body) → HasAll 8 (rowOf f)
-  -- "Body facts are flat."
-  pub flatly : (f : Fact Expr) → List·Memᴰ f (a .body) → levels f ≡ 0
-  -- "Constraint variables occur in head or body": they have a kind
-  pub occurs : (c : Constraint) → List·Memᴰ c (a .tests) → (v : ℕ) → List·Memᴰ v (varsTest c) → (v < 8) × (kindsOf W a v ≢ 0)
 
 pub at-some : {A : Type 0} (d x : A) (l : List A) → List·Memᴰ x l → (i : ℕ) × (i < length l) × (x ≡ getD l i d)
 at-some d x [] m = absurd (List·Memᴰ·not-nil m)
@@ -111,9 +73,9 @@ unbound-at (suc (suc (suc (suc (suc (suc zero)))))) = refl
 unbound-at (suc (suc (suc (suc (suc (suc (suc zero))))))) = refl
 unbound-at (suc (suc (suc (suc (suc (suc (suc (suc v)))))))) = refl
 
-module _ (W : World) (few : length (W .constants) ≤ 255) (a : Assertion) (P : Proper W a) (rows policy : List ℕ) (from tests : ℕ) (laid : Laid W a rows policy from tests) (round d skip early : ℕ) where
+module _ (W : World) (few : length (W .constants) ≤ 255) (a : Assertion) (P : Proper W a) (rows policy : List ℕ) (from tests : ℕ) (laid : Laid W a rows policy from tests) (round d skip last early : ℕ) where
   abbrev pub F : Frame
-  F = frame W rows (map (λ (c : Constant). c .kind) (W .constants)) policy from tests round (a .issuer) d skip early
+  F = frame W rows (map (λ (c : Constant). c .kind) (W .constants)) policy from tests round (a .issuer) d skip last early
 
   abbrev ks : List ℕ
   ks = map (kindsOf W a) variables
@@ -134,7 +96,7 @@ module _ (W : World) (few : length (W .constants) ≤ 255) (a : Assertion) (P : 
     few = few;
     constants = refl;
     eight = refl;
-    kinds = λ v l. laid .kinds v l ∙ sym (at-variable (kindsOf W a) v l);
+    kinds = λ v l. laid .block .kinds v l ∙ sym (at-variable (kindsOf W a) v l);
     early = λ τ θ l u m e. early-upto W policy tests (getD rows (from + 2) 0) τ θ u (λ i h. T-true _ (all-of (passes W θ) (subst T (sym e) tt) (here i h)));
     late = λ τ θ l u m p t. T-true _ (all-in (passes W θ) (a .tests) (λ c h. let i = constraint-of (getD rows (from + 2) 0) policy tests c (subst (List·Memᴰ c) (laid .tested) h) in
         subst (λ (x : Constraint). T (passes W θ x)) (sym (i .2)) (subst T (sym (late-upto W policy tests (getD rows (from + 2) 0) τ θ u p t (i .0) (i .1))) tt)));
@@ -145,7 +107,7 @@ module _ (W : World) (few : length (W .constants) ≤ 255) (a : Assertion) (P : 
       here i h = rw (laid .tested) (constraint-in (getD rows (from + 2) 0) policy tests i h)
 
   pub body-count : bodies F ≡ length (a .body)
-  body-count = go (laid .four) (laid .count)
+  body-count = go (laid .few) (laid .block .bodies)
     where
       go : {n m : ℕ} → m ≤ 4 → n ≡ m → cond (ltb n 4) n 4 ≡ m
       go {n} {m} h e = pick (decLt n 4)
@@ -154,22 +116,26 @@ module _ (W : World) (few : length (W .constants) ≤ 255) (a : Assertion) (P : 
           pick (yes l) = rw (lt-ltb n 4 l) e
           pick (no l) = rw (le-ltb n 4 (omega arith)) (omega arith)
 
-  row-is : (i : ℕ) → i < length (a .body) → bodyRow F i ≡ con (a .issuer) ∷ con d ∷ rowOf (getD (a .body) i none′)
-  row-is i h = ap (λ (r : List Expr). con (a .issuer) ∷ con d ∷ r) (laid .body i h)
+  -- body fact i under a binding
+  abbrev pub factAt : List ℕ → ℕ → Said
+  factAt θ i = said (a .issuer) d (mapFact (bound θ) (getD (a .body) i noFact))
+
+  row-is : (i : ℕ) → i < length (a .body) → bodyRow F i ≡ con (a .issuer) ∷ con d ∷ rowOf (getD (a .body) i noFact)
+  row-is i h = ap (λ (r : List Expr). con (a .issuer) ∷ con d ∷ r) (laid .block .body i h)
 
   has-rows : (i : ℕ) → i < bodies F → HasAll 8 (bodyRow F i)
-  has-rows i h = let l : i < length (a .body) = omega (arith, body-count) in subst (HasAll 8) (sym (row-is i l)) (tt, (tt, P .rows (getD (a .body) i none′) (some-at none′ (a .body) i l)))
+  has-rows i h = let l : i < length (a .body) = omega (arith, body-count) in subst (HasAll 8) (sym (row-is i l)) (tt, (tt, P .rows (getD (a .body) i noFact) (some-at noFact (a .body) i l)))
 
   -- the record of the head
   head-is : (θ : List ℕ) → List·Memᴰ θ (bindingsOf W a) → (d < 255) → headRecord F θ ≡ byteOf (round / 256) ∷ byteOf round ∷ key (headOf a d θ)
   unfolding instanceOf
   head-is θ m h =
-      let e : map (bound θ) (con (a .issuer) ∷ con d ∷ headRow F) ≡ key (headOf a d θ) = ap (λ (r : List Expr). map (bound θ) (con (a .issuer) ∷ con d ∷ r)) (laid .head) ∙ row-key θ (a .issuer) d (a .head) in
+      let e : map (bound θ) (con (a .issuer) ∷ con d ∷ headRow F) ≡ key (headOf a d θ) = ap (λ (r : List Expr). map (bound θ) (con (a .issuer) ∷ con d ∷ r)) (laid .block .head) ∙ row-key θ (a .issuer) d (a .head) in
       let b : Below (map (bound θ) (con (a .issuer) ∷ con d ∷ headRow F)) = subst Below (sym e) (key-below W (headOf a d θ) (record { arity = ar; shape = P .heads .shape θ; small = (P .heads .issuer, h, P .heads .small θ m) })) in
       ap (λ (l : List ℕ). byteOf (round / 256) ∷ byteOf round ∷ a .issuer ∷ d ∷ l) (fields θ (headRow F) (b .1 .1)) ∙ ap (λ (l : List ℕ). byteOf (round / 256) ∷ byteOf round ∷ l) e
     where
       ar : Fitting W (headOf a d θ)
-      ar = arity-instance W θ (a .head) (P .heads .arity)
+      ar = arity-map (W .verbs) θ (a .head) (P .heads .arity)
 
   -- ---- uses of the rule
 
@@ -184,27 +150,32 @@ module _ (W : World) (few : length (W .constants) ≤ 255) (a : Assertion) (P : 
           (bodyOf a d θ, R.cond counts md m (subst T (sym t) tt), h),
         )
 
-    module _ (t : L) (H : Hold W 𝒜 heads n t) where
+    module _ (t : L) (H : Holds (Rule W 𝒜) rec n t) where
       pub ground : (q : List ℕ) → In q t → Ground (drop 2 q)
       ground q m =
           let s = H .sound q m in
           subst (λ (r : List ℕ). Ground (drop 2 r)) (sym (s .2)) (below-ground (key (s .1)) (key-below W (s .1) (good W 𝒜 heads (s .1) (derived (Rule W 𝒜) key rec (keyed W 𝒜 heads) (Fitting W) (fitting W 𝒜 heads) (same W 𝒜 heads) (s .0) (s .1) (s .3)))))
 
-      met-old : (θ : List ℕ) (i : ℕ) → i < length (a .body) → Met over t has-rows ground i θ → Within (Rule W 𝒜) n (said (a .issuer) d (mapFact (bound θ) (getD (a .body) i none′)))
+      met-old : (θ : List ℕ) (i : ℕ) → i < length (a .body) → Met over t has-rows ground i θ → Within (Rule W 𝒜) n (factAt θ i)
       met-old θ i h m =
-          within (Rule W 𝒜) key rec (keyed W 𝒜 heads) (Fitting W) (fitting W 𝒜 heads) (same W 𝒜 heads) n t H (m .0) (m .1) (said (a .issuer) d (mapFact (bound θ) (getD (a .body) i none′)))
-          (arity-instance W θ (getD (a .body) i none′) (P .arities (getD (a .body) i none′) (some-at none′ (a .body) i h)))
-          (sym (m .2) ∙ ap (map (bound θ)) (row-is i h) ∙ row-key θ (a .issuer) d (getD (a .body) i none′))
+          within (Rule W 𝒜) key rec (keyed W 𝒜 heads) (Fitting W) (fitting W 𝒜 heads) (same W 𝒜 heads) n t H (m .0) (m .1) (factAt θ i)
+          (arity-map (W .verbs) θ (getD (a .body) i noFact) (P .arities (getD (a .body) i noFact) (some-at noFact (a .body) i h)))
+          (sym (m .3) ∙ ap (map (bound θ)) (row-is i h) ∙ row-key θ (a .issuer) d (getD (a .body) i noFact))
 
-      old-met : (θ : List ℕ) (i : ℕ) → i < length (a .body) → Within (Rule W 𝒜) n (said (a .issuer) d (mapFact (bound θ) (getD (a .body) i none′))) → Met over t has-rows ground i θ
-      old-met θ i h w =
-          let m = H .whole (said (a .issuer) d (mapFact (bound θ) (getD (a .body) i none′))) w in
-          (rec (m .0) (said (a .issuer) d (mapFact (bound θ) (getD (a .body) i none′))), m .1, ap (map (bound θ)) (row-is i h) ∙ row-key θ (a .issuer) d (getD (a .body) i none′))
+      -- the records of the facts before the given one are not of the round `last`
+      abbrev pub Earlier : List ℕ → Type 0
+      Earlier θ = (i : ℕ) → i < skip → i < length (a .body) → (q : List ℕ) → In q t → drop 2 q ≡ key (factAt θ i) → stampOf q ≢ last
+
+      old-met : (θ : List ℕ) → Earlier θ → (i : ℕ) → i < length (a .body) → Within (Rule W 𝒜) n (factAt θ i) → Met over t has-rows ground i θ
+      old-met θ older i h w =
+          let m = H .whole (factAt θ i) w in
+          let q : List ℕ = rec (m .0) (factAt θ i) in
+          (q, m .1, not-new skip last i q (λ l. older i l h q (m .1) refl), ap (map (bound θ)) (row-is i h) ∙ row-key θ (a .issuer) d (getD (a .body) i noFact))
 
       body-old : (θ : List ℕ) → ((i : ℕ) → i < length (a .body) → Met over t has-rows ground i θ) → (x : Said) → List·Memᴰ x (bodyOf a d θ) → Within (Rule W 𝒜) n x
       body-old θ h x m =
           let f = Memᴰ·of-map (λ (f : Fact Expr). said (a .issuer) d (mapFact (bound θ) f)) (a .body) m in
-          let i = at-some none′ (f .0) (a .body) (f .1) in
+          let i = at-some noFact (f .0) (a .body) (f .1) in
           subst (Within (Rule W 𝒜) n) (ap (λ (f : Fact Expr). said (a .issuer) d (mapFact (bound θ) f)) (sym (i .2)) ∙ f .2) (met-old θ (i .0) (i .1) (h (i .0) (i .1)))
 
       pub cond-gives : (q c : List ℕ) → In q t → skip < length (a .body) → In c (condAt F t q) → Gives W 𝒜 heads n c
@@ -214,23 +185,24 @@ module _ (W : World) (few : length (W .constants) ≤ 255) (a : Assertion) (P : 
           let f = follow-of (fits unbound8 (bodyRow F skip) (drop 2 q)) (condOf F t 8) c m in
           let l = match-long over t has-rows ground skip unbound8 (f .0) q refl (f .1) in
           let w = cond-of over t has-rows ground 8 (f .0) c l (f .2) in
-          let g = match-of over t has-rows ground skip unbound8 (f .0) (w .0) q ls mq refl (f .1) (w .1 .1) in
+          let o = not-new skip last skip q (λ l. absurd (omega arith)) in
+          let g = match-of over t has-rows ground skip unbound8 (f .0) (w .0) q ls mq o refl (f .1) (w .1 .1) in
           head-gives (w .0) c (w .1 .0) (w .1 .2) (w .1 .3) (body-old (w .0) (λ i h. all (w .0) (g .1) (w .1 .4) i h (ℕ-discrete i skip)))
         where
           all : (θ : List ℕ) → Met over t has-rows ground skip θ → MetBy over t has-rows ground 8 θ → (i : ℕ) → i < length (a .body) → Dec (i ≡ skip) → Met over t has-rows ground i θ
           all θ g ms i h (yes e) = subst (λ (j : ℕ). Met over t has-rows ground j θ) (sym e) g
           all θ g ms i h (no e) = let v = visited over t has-rows ground i (omega (arith, body-count)) e in subst (λ (j : ℕ). Met over t has-rows ground j θ) (v .2) (ms (v .0) (v .1) (v .3))
 
-      pub cond-given : (q θ : List ℕ) → In q t → skip < length (a .body) → drop 2 q ≡ key (said (a .issuer) d (mapFact (bound θ) (getD (a .body) skip none′)))
-          → List·Memᴰ θ (bindingsOf W a) → passing θ ≡ true → ((x : Said) → List·Memᴰ x (bodyOf a d θ) → Within (Rule W 𝒜) n x) → (c : List ℕ) × In c (condAt F t q) × (drop 2 c ≡ key (headOf a d θ))
+      pub cond-given : (q θ : List ℕ) → In q t → skip < length (a .body) → drop 2 q ≡ key (factAt θ skip)
+          → List·Memᴰ θ (bindingsOf W a) → passing θ ≡ true → ((x : Said) → List·Memᴰ x (bodyOf a d θ) → Within (Rule W 𝒜) n x) → Earlier θ → (c : List ℕ) × In c (condAt F t q) × (drop 2 c ≡ key (headOf a d θ))
       unfolding condAt
-      cond-given q θ mq hs e m pass old =
+      cond-given q θ mq hs e m pass old older =
           let ls : skip < bodies F = omega (arith, body-count) in
-          let f = match-in over t has-rows ground skip unbound8 θ q ls mq refl (λ v. inl (unbound-at v)) (ap (map (bound θ)) (row-is skip hs) ∙ row-key θ (a .issuer) d (getD (a .body) skip none′) ∙ sym e) in
+          let f = match-in over t has-rows ground skip unbound8 θ q ls mq refl (λ v. inl (unbound-at v)) (ap (map (bound θ)) (row-is skip hs) ∙ row-key θ (a .issuer) d (getD (a .body) skip noFact) ∙ sym e) in
           let l = match-long over t has-rows ground skip unbound8 (f .0) q refl (f .1) in (
             headRecord F θ,
             follow-in (fits unbound8 (bodyRow F skip) (drop 2 q)) (condOf F t 8) (headRecord F θ) (f .0) (f .1)
-                (cond-in over t has-rows ground 8 (f .0) θ l m (f .2) pass (λ j x o. let h : factOf j < length (a .body) = omega (arith, body-count, there over t has-rows ground j o) in old-met θ (factOf j) h (old _ (Memᴰ·map (λ (f : Fact Expr). said (a .issuer) d (mapFact (bound θ) f)) (some-at none′ (a .body) (factOf j) h))))),
+                (cond-in over t has-rows ground 8 (f .0) θ l m (f .2) pass (λ j x o. let h : factOf j < length (a .body) = omega (arith, body-count, there over t has-rows ground j o) in old-met θ older (factOf j) h (old _ (Memᴰ·map (λ (f : Fact Expr). said (a .issuer) d (mapFact (bound θ) f)) (some-at noFact (a .body) (factOf j) h))))),
             ap (drop 2) (head-is θ m small),
           )
 
@@ -249,7 +221,7 @@ module _ (W : World) (few : length (W .constants) ≤ 255) (a : Assertion) (P : 
             none-there : (x : Said) (θ : List ℕ) → List·Memᴰ x (bodyOf a d θ) → ⊥
             none-there x θ h =
                 let f = Memᴰ·of-map (λ (f : Fact Expr). said (a .issuer) d (mapFact (bound θ) f)) (a .body) h in
-                let i = at-some none′ (f .0) (a .body) (f .1) in
+                let i = at-some noFact (f .0) (a .body) (f .1) in
                 let l : i .0 < length (a .body) = i .1 in
                 omega (arith, body-count, eqb-true (bodies F) 0 e)
 

@@ -15,6 +15,7 @@ use Rattle.model.specs.Syntax.{Expr, con, var, today}
 use Rattle.model.specs.Values.{bound}
 use Rattle.model.proofs.ListFacts.{eqb-in}
 use Rattle.rules.specs.Matching.{at, fit, fits}
+use Rattle.rules.specs.Proper.{Has, HasAll}
 
 -- the binding goes on from the partial one
 abbrev pub Under : List ℕ → List ℕ → Type 0
@@ -41,12 +42,6 @@ fresh-of σ θ v x l n z u = (λ w. go w (ℕ-discrete w v), ⊎-elim (λ h. abs
     go : (w : ℕ) → Dec (w ≡ v) → (at σ w ≡ unbound) ⊎ (at σ w ≡ at θ w)
     go w (yes q) = inl (ap (at σ) q ∙ z)
     go w (no q) = ⊎-elim (λ h. inl (sym (getD-set-other σ v w x unbound q) ∙ h)) (λ h. inr (sym (getD-set-other σ v w x unbound q) ∙ h)) (u w)
-
--- the variables of an expression have a place in the binding
-abbrev pub Has : ℕ → Expr → Type 0
-Has n (con c) = Unit {0}
-Has n (var v) = v < n
-Has n today = ⊥
 
 -- one expression: what is carried stands for the bindings that agree
 pub fit↔ : (σ : List ℕ) (e : Expr) (x : ℕ) (θ : List ℕ) → Has (length σ) e → x ≢ unbound → (Under σ θ × (bound θ e ≡ x)) ↔ Goes (fit σ e x) θ
@@ -80,10 +75,6 @@ fit-sized σ (var v) x = go (eqb (at σ v) unbound) (eqb (at σ v) x)
     go false true = refl
     go false false = tt
 fit-sized σ today x = tt
-
-abbrev pub HasAll : ℕ → List Expr → Type 0
-HasAll n [] = Unit {0}
-HasAll n (e ∷ es) = Has n e × HasAll n es
 
 abbrev pub Ground : List ℕ → Type 0
 Ground [] = Unit {0}

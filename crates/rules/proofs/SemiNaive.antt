@@ -2,8 +2,25 @@
 use mathlib.Core.Path.{_≡_, refl, sym, subst}
 use mathlib.Core.Logic.{_⊎_, inl, inr, ⊎-elim}
 use mathlib.Core.List.{List, [], _∷_, List·Memᴰ, List·Memᴰ·head, List·Memᴰ·tail, List·Memᴰ·not-nil, List·Memᴰ·cases-cons}
-use Prim.Native.Nat.{ℕ, zero, suc}
+use Prim.Native.Nat.{ℕ, zero, suc, _<_}
+use native.Mathlib.Nat.{not-suc-le-zero}
+use native.Mathlib.Decide.{ℕ-discrete}
+use native.Mathlib.Omega.{arith}
 use Rattle.model.specs.Closure.{Use, Within, First}
+
+-- of k numbers, each of one sort or the other: all are of the one sort, or there is a first one of the other
+pub least : (P Q : ℕ → Type 0) (k : ℕ) → ((i : ℕ) → i < k → P i ⊎ Q i) → ((i : ℕ) → i < k → P i) ⊎ ((j : ℕ) × (j < k) × Q j × ((i : ℕ) → i < j → P i))
+least P Q zero s = inl (λ i h. absurd (not-suc-le-zero h))
+least P Q (suc k) s = go (least P Q k (λ i h. s i (omega arith))) (s k (omega arith))
+  where
+    go : ((i : ℕ) → i < k → P i) ⊎ ((j : ℕ) × (j < k) × Q j × ((i : ℕ) → i < j → P i)) → P k ⊎ Q k → ((i : ℕ) → i < suc k → P i) ⊎ ((j : ℕ) × (j < suc k) × Q j × ((i : ℕ) → i < j → P i))
+    go (inr r) x = inr (r .0, (let h : r .0 < k = r .1 in omega arith), r .2, r .3)
+    go (inl ps) (inr q) = inr (k, omega arith, q, ps)
+    go (inl ps) (inl p) = inl (λ i h. pick i h (ℕ-discrete i k))
+      where
+        pick : (i : ℕ) → i < suc k → Dec (i ≡ k) → P i
+        pick i h (yes e) = subst P (sym e) p
+        pick i h (no e) = ps i (omega (arith, e))
 
 module _ {X : Type 0} (Rule : List X → X → Type 0) where
   -- what each premise is: of an earlier round, or of the last

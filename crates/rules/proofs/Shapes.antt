@@ -1,18 +1,12 @@
 -- What the code makes of a fact's record is the record of what the rules make of the fact.
 use mathlib.Core.Path.{_≡_, refl}
 use mathlib.Core.List.{List, [], _∷_}
-use Prim.Native.Nat.{ℕ, zero, suc, _≤_}
+use Prim.Native.Nat.{ℕ}
 use native.Mathlib.Omega.{arith}
-use lib.ListN.{length}
 use Rattle.model.specs.Syntax.{Fact, flat, canSay, Said, said, about, subject}
 use Rattle.model.specs.Records.{key, recordOf}
+use Rattle.rows.specs.Rows.{Formed}
 use Rattle.rules.specs.Uses.{innerOf, outerOf, heardOf, aboutOf, topOf}
-
--- at most n deep, with at most three parameters
-abbrev pub Formed : ℕ → Fact ℕ → Type 0
-Formed n (flat s v ps) = length ps ≤ 3
-Formed zero (canSay s d f) = ⊥
-Formed (suc n) (canSay s d f) = Formed n f
 
 pub inner-key : (m a d b k hi lo a′ d′ : ℕ) (f : Fact ℕ) → Formed 2 f → innerOf (recordOf (m, said a d (canSay b k f))) hi lo a′ d′ ≡ hi ∷ lo ∷ key (said a′ d′ f)
 unfolding innerOf

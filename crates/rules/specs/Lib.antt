@@ -1,5 +1,8 @@
 pub mod Matching
-pub mod Rows
+pub mod Instances
 pub mod Cond
 pub mod Uses
 pub mod Rounds
+pub mod Proper
+pub mod Laid
+pub mod Held

@@ -3,6 +3,18 @@ use Rattle.outcome.proofs.Lines.{counts-are}
 use Rattle.outcome.proofs.counted.Statement.{statement}
 use Rattle.outcome.proofs.counted.Tie as tie
 
+-- the three numbers, each after its word, and the end of the line
+returns : tie.Need-returns
+returns c =
+    let word = c .before .before in
+    let labelled3 = word .before .before .before .before .before in
+    let labelled2 = labelled3 .before .before .before .before .before in
+    let labelled = labelled2 .before .before .before .before .before in
+    let st = labelled .before .before .before .before in
+    let a = st .args in
+    counts-are (a .at) (a .facts) (a .rounds) (a .answers) (labelled .labelled .ensures) (labelled2 .labelled2 .ensures)
+    (labelled3 .labelled3 .ensures) (word .word .ensures)
+
 pub counted-spec : {M : Type 1} → statement M
 counted-spec = tie.close (tie.spec
     (λ c. search needs)
@@ -14,4 +26,4 @@ counted-spec = tie.close (tie.spec
     (λ c. search needs)
     (λ c κs. search needs)
     (λ c. search needs)
-    (λ c. let start = c .before .before .before .before .before .before .before .before .before .before .before .before .before .before .before .before .before .before .before .before .before in counts-are (start .args .at) (start .args .facts) (start .args .rounds) (start .args .answers) (c .before .before .before .before .before .before .before .before .before .before .before .before .before .before .before .before .before .labelled .ensures) (c .before .before .before .before .before .before .before .before .before .before .before .before .labelled2 .ensures) (c .before .before .before .before .before .before .before .labelled3 .ensures) (c .before .before .word .ensures)))
+    returns)
