@@ -7,35 +7,27 @@ use Rattle.engine.proofs.decide.Lts as lts
 use Rattle.engine.proofs.steps.accepted.Reads as accepted-reads
 use Rattle.policy.proofs.read.Reads as read-reads
 
--- src/lib.rt:74:9
 read-requires : tie.Need-read-requires
 read-requires c κs = search needs
 
--- src/lib.rt:77:65
 enum-told : tie.Need-enum-told
 enum-told c = search needs
 
--- src/lib.rt:77:29
 accepted-requires : tie.Need-accepted-requires
 accepted-requires c κs = search needs
 
--- src/lib.rt:78:25
 enum-known-a : tie.Need-enum-known-a
 enum-known-a c = search needs
 
--- src/lib.rt:71:1
 same-length : tie.Need-same-length
 same-length c = search needs
 
--- src/lib.rt:71:1
 same-length-2 : tie.Need-same-length-2
 same-length-2 c = search needs
 
--- src/lib.rt:71:1
 returns : tie.Need-returns
 returns c = search needs
 
--- src/lib.rt:71:1
 returns-2 : tie.Need-returns-2
 returns-2 c =
     let st = c .before .before .before .before .before .before .before .before in

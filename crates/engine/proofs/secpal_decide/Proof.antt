@@ -7,26 +7,21 @@ use Rattle.engine.proofs.secpal_decide.Lts as lts
 use Rattle.engine.proofs.decide.Reads as decide-reads
 use Rattle.engine.proofs.numbers.in_numbers.Reads as in-numbers-reads
 
--- src/lib.rt:118:25
 decide-requires : tie.Need-decide-requires
 decide-requires c κs = search needs
 
--- src/lib.rt:118:5
 in-numbers-requires : tie.Need-in-numbers-requires
 in-numbers-requires c κs =
     let st = c .before .before .before .before .before .before .before .before .before .before .before in
     let d = c .before .before .before .before .decide in
     (facts-fit (st .args .policy .now) (st .args .request .now) (st .args .facts .now) (st .args .answers .now) (d .result) _ _ (d .ensures), rounds-fit (st .args .policy .now) (st .args .request .now) (st .args .facts .now) (st .args .answers .now) (d .result) _ _ (d .ensures))
 
--- src/lib.rt:107:1
 same-length : tie.Need-same-length
 same-length c = search needs
 
--- src/lib.rt:107:1
 same-length-2 : tie.Need-same-length-2
 same-length-2 c = search needs
 
--- src/lib.rt:107:1
 returns : tie.Need-returns
 returns c =
     let st = c .before .before .before .before .before .before .before .before .before .before .before .before in

@@ -13,63 +13,48 @@ use Rattle.engine.proofs.numbers.in_numbers.Lts as lts
 use Rattle.engine.proofs.numbers.refused.Reads as refused-reads
 use Rattle.engine.proofs.numbers.told.Reads as told-reads
 
--- src/numbers.rt:48:24
 enum-known-o : tie.Need-enum-known-o
 enum-known-o c = search needs
 
--- src/numbers.rt:48:51
 told-requires : tie.Need-told-requires
 told-requires c κs = let e = c .before .o .given .1 in let p = c .before .before .before .pre in (subst (λ (o : Outcome). reportOf o [] [] .facts < 4294967296) e (p .0), subst (λ (o : Outcome). reportOf o [] [] .rounds < 4294967296) e (p .1))
 
--- src/numbers.rt:49:23
 enum-known-o-2 : tie.Need-enum-known-o-2
 enum-known-o-2 c = search needs
 
--- src/numbers.rt:49:41
 told-requires-2 : tie.Need-told-requires-2
 told-requires-2 c κs = let e = c .before .o2 .given .1 in let p = c .before .before .before .pre in (subst (λ (o : Outcome). reportOf o [] [] .facts < 4294967296) e (p .0), subst (λ (o : Outcome). reportOf o [] [] .rounds < 4294967296) e (p .1))
 
--- src/numbers.rt:50:26
 enum-known-o-3 : tie.Need-enum-known-o-3
 enum-known-o-3 c = search needs
 
--- src/numbers.rt:50:50
 refused-requires : tie.Need-refused-requires
 refused-requires c κs = search needs
 
--- src/numbers.rt:51:34
 enum-told : tie.Need-enum-told
 enum-told c = search needs
 
--- src/numbers.rt:51:34
 refused-requires-2 : tie.Need-refused-requires-2
 refused-requires-2 c κs = search needs
 
--- src/numbers.rt:52:33
 enum-known-o-4 : tie.Need-enum-known-o-4
 enum-known-o-4 c = search needs
 
--- src/numbers.rt:52:51
 refused-requires-3 : tie.Need-refused-requires-3
 refused-requires-3 c κs = let e = c .before .o4 .given .1 in let p = c .before .before .before .pre in (subst (λ (o : Outcome). reportOf o [] [] .facts < 4294967296) e (p .0), subst (λ (o : Outcome). reportOf o [] [] .rounds < 4294967296) e (p .1))
 
--- src/numbers.rt:43:1
 returns : tie.Need-returns
 returns c = c .told .ensures ∙ ap (λ (o : Outcome). numbersOf (reportOf o [] [])) (sym (c .before .before .o .given .1))
 
--- src/numbers.rt:43:1
 returns-2 : tie.Need-returns-2
 returns-2 c = c .told2 .ensures ∙ ap (λ (o : Outcome). numbersOf (reportOf o [] [])) (sym (c .before .before .o2 .given .1))
 
--- src/numbers.rt:43:1
 returns-3 : tie.Need-returns-3
 returns-3 c = c .refused .ensures ∙ ap (λ (o : Outcome). numbersOf (reportOf o [] [])) (sym (c .before .before .o3 .given .1))
 
--- src/numbers.rt:43:1
 returns-4 : tie.Need-returns-4
 returns-4 c = let e : c .before .before .before .args .o ≡ TooManyFacts = search needs in c .refused2 .ensures ∙ ap (λ (o : Outcome). numbersOf (reportOf o [] [])) (sym e)
 
--- src/numbers.rt:43:1
 returns-5 : tie.Need-returns-5
 returns-5 c = c .refused3 .ensures ∙ ap (λ (o : Outcome). numbersOf (reportOf o [] [])) (sym (c .before .before .o4 .given .1))
 
