@@ -1,2 +1,3 @@
 pub mod Accepts
 pub mod Numbers
+pub mod Named

@@ -29,7 +29,7 @@ pub fn item_there(s: &[u8], at: usize) -> bool
 pub fn has_label(kind: usize) -> bool
     ensures { λ r. ⌜ r ≡ hasLabel kind ⌝ }
 {
-    kind == 1 || kind == 2
+    kind == limits::PRINCIPAL || kind == limits::THING
 }
 
 // "Kind 3 day: .. 0 to 36,524. Kind 4 quantity: .. any value."
@@ -38,10 +38,10 @@ fn number_form(s: &[u8], at: usize) -> bool
     ensures { λ r. ⌜ r ≡ numberForm (now (s .entry)) at ⌝ }
 {
     let kind = wire::byte(s, at + 1);
-    if kind == 3 {
-        return wire::u32_at(s, at + 2) <= 36524;
+    if kind == limits::DAY {
+        return wire::u32_at(s, at + 2) <= limits::LAST_DAY;
     }
-    kind == 4
+    kind == limits::QUANTITY
 }
 
 fn value_form(s: &[u8], at: usize) -> bool
@@ -144,7 +144,7 @@ pub fn constants(s: &[u8], p: usize) -> Step
     requires { ⌜ p ≤ farthest ⌝ }
     ensures { λ r. ⌜ r ≡ step (listAt (now (s .entry)) 1 maxConstants (constantItem (now (s .entry))) p) ⌝ }
 {
-    if slices::count_right(s, 1, 255, p) {
+    if slices::count_right(s, 1, limits::CONSTANTS, p) {
         return items(s, wire::u16_at(s, p), 0, p + 2, p + 2);
     }
     Step::Refused(3, p)

@@ -16,6 +16,9 @@ pub mod slices;
 pub mod tables;
 pub mod verbs;
 
+// The constants stand behind their 2-byte count.
+const FIRST_CONSTANT: usize = limits::HEADER + 2;
+
 pub enum Answer {
     Accepted,
     Refused(u8, usize),
@@ -29,12 +32,12 @@ pub struct Index {
     pub verbs: usize,
     pub assertions: usize,
     // the first byte of each
-    pub constant_at: [usize; 255],
-    pub verb_at: [usize; 64],
-    pub assertion_at: [usize; 256],
+    pub constant_at: [usize; limits::CONSTANTS],
+    pub verb_at: [usize; limits::VERBS],
+    pub assertion_at: [usize; limits::ASSERTIONS],
     // the kind of each constant, and four bytes for each verb from verb 0 on: arity and one, then the kinds of its parameters
-    pub kinds: [u8; 255],
-    pub signatures: [u8; 260],
+    pub kinds: [u8; limits::CONSTANTS],
+    pub signatures: [u8; tables::SIGNATURES],
 }
 
 fn refused(number: u8, place: usize) -> Index
@@ -45,23 +48,29 @@ fn refused(number: u8, place: usize) -> Index
         constants: 0,
         verbs: 0,
         assertions: 0,
-        constant_at: [0; 255],
-        verb_at: [0; 64],
-        assertion_at: [0; 256],
-        kinds: [0; 255],
-        signatures: [0; 260],
+        constant_at: [0; limits::CONSTANTS],
+        verb_at: [0; limits::VERBS],
+        assertion_at: [0; limits::ASSERTIONS],
+        kinds: [0; limits::CONSTANTS],
+        signatures: [0; tables::SIGNATURES],
     }
 }
 
 // Everything is in order: the verbs' count stands at p, the assertions' at q.
-fn accepted(s: &[u8], p: usize, q: usize, kinds: [u8; 255], signatures: [u8; 260]) -> Index
+fn accepted(
+    s: &[u8],
+    p: usize,
+    q: usize,
+    kinds: [u8; limits::CONSTANTS],
+    signatures: [u8; tables::SIGNATURES],
+) -> Index
     requires { ⌜ (p ≤ length (now s)) × (q ≤ length (now s)) × (length (now s) ≤ longest) × (u16At (now s) 5 ≤ maxConstants) × (u16At (now s) p ≤ maxVerbs) × (u16At (now s) q ≤ maxAssertions) ⌝ }
     ensures { λ r. ⌜ r ≡ indexAt (now (s .entry)) p q kinds signatures ⌝ }
 {
-    let n = wire::u16_or(s, 5);
+    let n = wire::u16_or(s, limits::HEADER);
     let v = wire::u16_or(s, p);
     let a = wire::u16_or(s, q);
-    let constant_at = tables::constant_offsets(s, n, 7);
+    let constant_at = tables::constant_offsets(s, n, FIRST_CONSTANT);
     let verb_at = tables::verb_offsets(s, v, p + 2);
     let assertion_at = tables::assertion_offsets(s, a, q + 2);
     Index {
@@ -82,7 +91,7 @@ fn with_verbs(s: &[u8], p: usize, q: usize) -> Index
     requires { ⌜ (length (now s) ≤ longest) × (listAt (now s) 1 maxConstants (constantItem (now s)) 5 ≡ got (constantsAt (now s) (u16At (now s) 5) 7) p) × (listAt (now s) 0 maxVerbs (verbItem (now s)) p ≡ got (verbsAt (now s) (u16At (now s) p) (p + 2)) q) ⌝ }
     ensures { λ r. ⌜ r ≡ handedOut (assertionsFrom (now (s .entry)) (constantsAt (now (s .entry)) (u16At (now (s .entry)) 5) 7) (verbsAt (now (s .entry)) (u16At (now (s .entry)) p) (p + 2)) q) ⌝ }
 {
-    let kinds = tables::kinds(s, wire::u16_or(s, 5), 7);
+    let kinds = tables::kinds(s, wire::u16_or(s, limits::HEADER), FIRST_CONSTANT);
     let signatures = tables::signatures(s, wire::u16_or(s, p), p + 2);
     match assertions::assertions(&kinds, &signatures, s, q) {
         Step::Next(_) => accepted(s, p, q, kinds, signatures),
@@ -106,7 +115,7 @@ fn headed(s: &[u8]) -> Index
     requires { ⌜ length (now s) ≤ longest ⌝ }
     ensures { λ r. ⌜ r ≡ handedOut (constantsFrom (now (s .entry))) ⌝ }
 {
-    match constants::constants(s, 5) {
+    match constants::constants(s, limits::HEADER) {
         Step::Next(p) => with_constants(s, p),
         Step::Refused(number, place) => refused(number, place),
     }
@@ -120,7 +129,7 @@ pub fn read(s: &[u8]) -> Index
         return refused(1, 0);
     }
     if !slices::length_right(s) {
-        return refused(2, 1);
+        return refused(2, limits::LENGTH_AT);
     }
     headed(s)
 }

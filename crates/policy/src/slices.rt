@@ -17,15 +17,15 @@ pub enum Step {
 pub fn version_there(s: &[u8]) -> bool
     ensures { λ r. ⌜ r ≡ versionThere (now (s .entry)) ⌝ }
 {
-    0 < s.len() && wire::byte(s, 0) == 1
+    0 < s.len() && wire::byte(s, 0) == limits::VERSION
 }
 
 // "2 length field short or wrong"
 pub fn length_right(s: &[u8]) -> bool
     ensures { λ r. ⌜ (r ≡ lengthRight (now (s .entry))) × (r ≡ true → length (now (s .entry)) ≤ longest) ⌝ }
 {
-    if 5 <= s.len() {
-        if wire::u32_at(s, 1) == s.len() - 5 {
+    if limits::HEADER <= s.len() {
+        if wire::u32_at(s, limits::LENGTH_AT) == s.len() - limits::HEADER {
             return true;
         }
     }

@@ -1,5 +1,5 @@
 // What later stages read of a policy: where its items begin, the kind of each constant, and arity and kinds of each verb.
-
+use phrases::ROW;
 ghost use mathlib.Core.Path.{_≡_};
 ghost use mathlib.Core.List.{map};
 ghost use Prim.Native.Nat.{_+_, _*_, _≤_};
@@ -11,6 +11,11 @@ ghost use Rattle.model.specs.Readings.{itemEnd, assertionEnd};
 ghost use Rattle.wire.specs.Budget.{farthest};
 ghost use Rattle.policy.specs.Items.{startsAt};
 ghost use Rattle.policy.specs.Index.{held, kindOf, rowAt, kindsAt, signaturesAt};
+
+// The rows of all verbs, verb 0 first.
+pub const SIGNATURES: usize = ROW * (1 + limits::VERBS);
+
+const ACTED_AS: u8 = limits::PRINCIPAL as u8;
 
 // ---- into a lent slice
 
@@ -57,7 +62,7 @@ fn put_kinds(s: &[u8], n: usize, p: usize, t: &mut [u8])
 }
 
 // The row of the verb at `at`: its arity and one, and the kinds of its parameters.
-fn row(s: &[u8], at: usize) -> [u8; 4]
+fn row(s: &[u8], at: usize) -> [u8; ROW]
     requires { ⌜ at + 4 ≤ farthest ⌝ }
     ensures { λ r. ⌜ r ≡ rowAt (now (s .entry)) at ⌝ }
 {
@@ -88,10 +93,10 @@ fn put_rows(s: &[u8], n: usize, p: usize, t: &mut [u8])
     let mut at = p;
     while i < n {
         let r = row(s, at);
-        t[4 * i + 4] = r[0];
-        t[4 * i + 5] = r[1];
-        t[4 * i + 6] = r[2];
-        t[4 * i + 7] = r[3];
+        t[ROW * i + 4] = r[0];
+        t[ROW * i + 5] = r[1];
+        t[ROW * i + 6] = r[2];
+        t[ROW * i + 7] = r[3];
         at = at + 1 + wire::byte_or(s, at);
         i += 1;
     }
@@ -100,53 +105,53 @@ fn put_rows(s: &[u8], n: usize, p: usize, t: &mut [u8])
 // ---- by value, 0 past the last
 
 // Where n constants from p on begin.
-pub fn constant_offsets(s: &[u8], n: usize, p: usize) -> [usize; 255]
+pub fn constant_offsets(s: &[u8], n: usize, p: usize) -> [usize; limits::CONSTANTS]
     requires { ⌜ (n ≤ maxConstants) × (p + 256 * n ≤ farthest) ⌝ }
     ensures { λ r. ⌜ r ≡ held maxConstants (startsAt (itemEnd (now (s .entry))) n p) ⌝ }
 {
-    let mut t = [0usize; 255];
+    let mut t = [0usize; limits::CONSTANTS];
     put_items(s, n, p, &mut t);
     t
 }
 
 // Where n verbs from p on begin.
-pub fn verb_offsets(s: &[u8], n: usize, p: usize) -> [usize; 64]
+pub fn verb_offsets(s: &[u8], n: usize, p: usize) -> [usize; limits::VERBS]
     requires { ⌜ (n ≤ maxVerbs) × (p + 256 * n ≤ farthest) ⌝ }
     ensures { λ r. ⌜ r ≡ held maxVerbs (startsAt (itemEnd (now (s .entry))) n p) ⌝ }
 {
-    let mut t = [0usize; 64];
+    let mut t = [0usize; limits::VERBS];
     put_items(s, n, p, &mut t);
     t
 }
 
 // Where n assertions from p on begin.
-pub fn assertion_offsets(s: &[u8], n: usize, p: usize) -> [usize; 256]
+pub fn assertion_offsets(s: &[u8], n: usize, p: usize) -> [usize; limits::ASSERTIONS]
     requires { ⌜ (n ≤ maxAssertions) × (p + 65537 * n ≤ farthest) ⌝ }
     ensures { λ r. ⌜ r ≡ held maxAssertions (startsAt (assertionEnd (now (s .entry))) n p) ⌝ }
 {
-    let mut t = [0usize; 256];
+    let mut t = [0usize; limits::ASSERTIONS];
     put_assertions(s, n, p, &mut t);
     t
 }
 
 // The kind of each of n constants from p on.
-pub fn kinds(s: &[u8], n: usize, p: usize) -> [u8; 255]
+pub fn kinds(s: &[u8], n: usize, p: usize) -> [u8; limits::CONSTANTS]
     requires { ⌜ (n ≤ maxConstants) × (p + 256 * n + 2 ≤ farthest) ⌝ }
     ensures { λ r. ⌜ r ≡ kindsAt (now (s .entry)) n p ⌝ }
 {
-    let mut t = [0u8; 255];
+    let mut t = [0u8; limits::CONSTANTS];
     put_kinds(s, n, p, &mut t);
     t
 }
 
 // The row of each verb: verb 0, "can act as", has one principal parameter; then n verbs from p on.
-pub fn signatures(s: &[u8], n: usize, p: usize) -> [u8; 260]
+pub fn signatures(s: &[u8], n: usize, p: usize) -> [u8; SIGNATURES]
     requires { ⌜ (n ≤ maxVerbs) × (p + 256 * n + 4 ≤ farthest) ⌝ }
     ensures { λ r. ⌜ r ≡ signaturesAt (now (s .entry)) n p ⌝ }
 {
-    let mut t = [0u8; 260];
+    let mut t = [0u8; SIGNATURES];
     t[0] = 2;
-    t[1] = 1;
+    t[1] = ACTED_AS;
     put_rows(s, n, p, &mut t);
     t
 }

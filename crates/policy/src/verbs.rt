@@ -22,7 +22,7 @@ fn kind_form(s: &[u8], p: usize) -> bool
     ensures { λ r. ⌜ r ≡ isKind (byteAt (now (s .entry)) p) ⌝ }
 {
     let k = wire::byte(s, p);
-    1 <= k && k <= 4
+    limits::PRINCIPAL <= k && k <= limits::QUANTITY
 }
 
 // "one kind byte per parameter": n of them from p on.
@@ -46,7 +46,7 @@ fn signature_form(s: &[u8], at: usize) -> bool
 {
     let n = wire::byte(s, at);
     let a = wire::byte(s, at + 1);
-    if a <= 3 {
+    if a <= limits::ARITY {
         if 1 + a <= n {
             if kinds_form(s, a, at + 2) {
                 return wire::label_form(s, at + 2 + a, n - 1 - a);
@@ -129,7 +129,7 @@ pub fn verbs(s: &[u8], p: usize) -> Step
     requires { ⌜ p ≤ farthest ⌝ }
     ensures { λ r. ⌜ r ≡ step (listAt (now (s .entry)) 0 maxVerbs (verbItem (now (s .entry))) p) ⌝ }
 {
-    if slices::count_right(s, 0, 64, p) {
+    if slices::count_right(s, 0, limits::VERBS, p) {
         return items(s, wire::u16_at(s, p), 0, p + 2, p + 2);
     }
     Step::Refused(3, p)

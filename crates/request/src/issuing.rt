@@ -14,12 +14,15 @@ ghost use Rattle.request.specs.Tree.{endIn, treeIn};
 ghost use Rattle.request.specs.Issuing.{constantsBy, worldBy};
 use super::tree;
 use super::tree::Shape;
+use limits::CONSTANTS;
+
+const PRINCIPAL: u8 = limits::PRINCIPAL as u8;
 
 // With constant c.
-fn with_constant(m: [u8; 255], c: usize) -> [u8; 255]
+fn with_constant(m: [u8; CONSTANTS], c: usize) -> [u8; CONSTANTS]
     ensures { λ r. ⌜ r ≡ set m c 1 ⌝ }
 {
-    if c < 255 {
+    if c < CONSTANTS {
         let mut u = m;
         u[c] = 1;
         return u;
@@ -28,13 +31,13 @@ fn with_constant(m: [u8; 255], c: usize) -> [u8; 255]
 }
 
 // "all the policy's principals join"
-fn with_principals(ks: &[u8], m: [u8; 255]) -> [u8; 255]
+fn with_principals(ks: &[u8], m: [u8; CONSTANTS]) -> [u8; CONSTANTS]
     ensures { λ r. ⌜ r ≡ marked (ofKind principal 0 (constantsBy (now (ks .entry)))) m ⌝ }
 {
     let mut u = m;
     let mut c = 0;
     while c < ks.len() {
-        if ks[c] == 1 {
+        if ks[c] == PRINCIPAL {
             let w = with_constant(u, c);
             u = w;
             c += 1;
@@ -46,22 +49,29 @@ fn with_principals(ks: &[u8], m: [u8; 255]) -> [u8; 255]
 }
 
 // With the issuer at p: a constant, or a variable.
-fn with_issuer(ks: &[u8], s: &[u8], p: usize, m: [u8; 255]) -> [u8; 255]
+fn with_issuer(ks: &[u8], s: &[u8], p: usize, m: [u8; CONSTANTS]) -> [u8; CONSTANTS]
     requires { ⌜ p ≤ farthest ⌝ }
     ensures { λ r. ⌜ r ≡ marked (joining (worldBy (now (ks .entry))) (exprAt (now (s .entry)) p)) m ⌝ }
 {
     let x = wire::u16_or(s, p);
-    if x == 0x4000 {
+    if x == limits::TODAY {
         return m;
     }
-    if x < 0x8000 {
+    if x < limits::FIRST_VARIABLE {
         return with_constant(m, x);
     }
     with_principals(ks, m)
 }
 
 // With the issuers of the node at `at`, which may hold others d - 1 deep.
-pub fn node(ks: &[u8], sg: &[u8], s: &[u8], d: usize, at: usize, m: [u8; 255]) -> [u8; 255]
+pub fn node(
+    ks: &[u8],
+    sg: &[u8],
+    s: &[u8],
+    d: usize,
+    at: usize,
+    m: [u8; CONSTANTS],
+) -> [u8; CONSTANTS]
     requires { ⌜ length (now s) ≤ longest ⌝ }
     ensures { λ r. ⌜ r ≡ marked (issuers (treeIn (now (sg .entry)) (now (s .entry)) d at) (worldBy (now (ks .entry)))) m ⌝ }
 {
@@ -83,7 +93,15 @@ pub fn node(ks: &[u8], sg: &[u8], s: &[u8], d: usize, at: usize, m: [u8; 255]) -
 }
 
 // And of n nodes from `at` on.
-fn parts(ks: &[u8], sg: &[u8], s: &[u8], d: usize, n: usize, at: usize, m: [u8; 255]) -> [u8; 255]
+fn parts(
+    ks: &[u8],
+    sg: &[u8],
+    s: &[u8],
+    d: usize,
+    n: usize,
+    at: usize,
+    m: [u8; CONSTANTS],
+) -> [u8; CONSTANTS]
     requires { ⌜ (length (now s) ≤ longest) × (n < 256) ⌝ }
     ensures { λ r. ⌜ r ≡ marked (issuersAll (nodesBy (treeIn (now (sg .entry)) (now (s .entry)) d) (endIn (now (sg .entry)) (now (s .entry)) d) n at) (worldBy (now (ks .entry)))) m ⌝ }
 {

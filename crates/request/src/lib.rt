@@ -21,6 +21,10 @@ pub mod nodes;
 pub mod safety;
 pub mod tree;
 
+use limits::DEPTH;
+use limits::FIRST_NODE;
+use limits::HEADER;
+use limits::VARIABLES;
 use nodes::Got;
 
 // What a request asks for, or why it is refused.
@@ -30,9 +34,9 @@ pub struct Request {
     pub place: usize,
     pub today: usize,
     // the kind of each variable, 0 where it has no place in a fact
-    pub kinds: [u8; 8],
+    pub kinds: [u8; VARIABLES],
     // 1 for each free variable
-    pub free: [u8; 8],
+    pub free: [u8; VARIABLES],
 }
 
 // Refusal n at place p, and nothing else.
@@ -48,21 +52,24 @@ fn refused(n: u8, p: usize) -> Request
     }
 }
 
+// What a kind's term is more than the kind.
+const NO_KIND: u8 = kinds::ANY_PRINCIPAL - 1;
+
 // The kind that a variable's cell stands for, if the variable is used.
-fn kind_in(t: [u8; 8], used: [u8; 8], v: usize) -> u8
+fn kind_in(t: [u8; VARIABLES], used: [u8; VARIABLES], v: usize) -> u8
     requires { ⌜ v < 8 ⌝ }
     ensures { λ r. ⌜ r ≡ cellKind t used v ⌝ }
 {
     if used[v] == 1 {
-        if 7 < t[v] {
-            return t[v] - 7;
+        if NO_KIND < t[v] {
+            return t[v] - NO_KIND;
         }
     }
     0
 }
 
 // The same for all eight.
-fn kinds_in(t: [u8; 8], used: [u8; 8]) -> [u8; 8]
+fn kinds_in(t: [u8; VARIABLES], used: [u8; VARIABLES]) -> [u8; VARIABLES]
     ensures { λ r. ⌜ r ≡ cellKinds t used ⌝ }
 {
     [
@@ -78,7 +85,7 @@ fn kinds_in(t: [u8; 8], used: [u8; 8]) -> [u8; 8]
 }
 
 // "7 comes last". The cells t tell the variables' kinds.
-fn safely(sg: &[u8], s: &[u8], t: [u8; 8]) -> Request
+fn safely(sg: &[u8], s: &[u8], t: [u8; VARIABLES]) -> Request
     requires { ⌜ length (now s) ≤ longest ⌝ }
     ensures { λ r. ⌜ r ≡ acceptedIn (now (s .entry)) (judgedIn (treeIn (now (sg .entry)) (now (s .entry)) maxDepth firstNodeAt)) t ⌝ }
 {
@@ -90,12 +97,12 @@ fn safely(sg: &[u8], s: &[u8], t: [u8; 8]) -> Request
         return Request {
             refusal: 0,
             place: 0,
-            today: wire::u32_or(s, 5),
+            today: wire::u32_or(s, HEADER),
             kinds: k,
             free: f,
         };
     }
-    refused(7, 9)
+    refused(7, FIRST_NODE)
 }
 
 // After the node: "bytes left over".
@@ -119,16 +126,16 @@ fn whole(ks: &[u8], sg: &[u8], s: &[u8]) -> Request
     requires { ⌜ length (now s) ≤ longest ⌝ }
     ensures { λ r. ⌜ r ≡ wholeIn (now (ks .entry)) (now (sg .entry)) (now (s .entry)) ⌝ }
 {
-    if s.len() < 9 {
-        return refused(3, 5);
+    if s.len() < FIRST_NODE {
+        return refused(3, HEADER);
     }
-    if 36524 < wire::u32_at(s, 5) {
-        return refused(3, 5);
+    if limits::LAST_DAY < wire::u32_at(s, HEADER) {
+        return refused(3, HEADER);
     }
     ended(
         sg,
         s,
-        nodes::node(ks, sg, s, 8, 9, [0, 1, 2, 3, 4, 5, 6, 7]),
+        nodes::node(ks, sg, s, DEPTH, FIRST_NODE, [0, 1, 2, 3, 4, 5, 6, 7]),
     )
 }
 
@@ -141,15 +148,15 @@ pub fn read(ks: &[u8], sg: &[u8], s: &[u8]) -> Request
         return refused(1, 0);
     }
     if !policy::slices::length_right(s) {
-        return refused(2, 1);
+        return refused(2, limits::LENGTH_AT);
     }
     whole(ks, sg, s)
 }
 
 // "every issuer in the request's says nodes": 1 for each of the 255 possible constants that is one. A variable brings in all principals.
-pub fn issuers(ks: &[u8], sg: &[u8], s: &[u8]) -> [u8; 255]
+pub fn issuers(ks: &[u8], sg: &[u8], s: &[u8]) -> [u8; limits::CONSTANTS]
     requires { ⌜ length (now s) ≤ longest ⌝ }
     ensures { λ r. ⌜ ((W : World) → Tables (W .constants) (W .verbs) (now (ks .entry)) (now (sg .entry)) → (p : ℕ) → p < 255 → getD r p 0 ≡ cond (member p (requests.issuers (nodeAt (W .verbs) (now (s .entry)) maxDepth firstNodeAt) W)) 1 0) ⌝ }
 {
-    issuing::node(ks, sg, s, 8, 9, [0; 255])
+    issuing::node(ks, sg, s, DEPTH, FIRST_NODE, [0; limits::CONSTANTS])
 }

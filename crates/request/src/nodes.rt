@@ -10,13 +10,16 @@ ghost use Rattle.request.specs.Nodes.{ownForm, fitsTo, testIn, saysAsks,
 use super::tree;
 use super::tree::Shape;
 use kinds::Fit;
+use limits::VARIABLES;
 use phrases::Form;
+
+const LAST_VARIABLE: usize = VARIABLES - 1;
 
 // Where reading goes on (no is 0), or a refusal's number and place; and the variables' cells.
 pub struct Got {
     pub no: u8,
     pub at: usize,
-    pub of: [u8; 8],
+    pub of: [u8; VARIABLES],
 }
 
 // "count byte 1 to 8"
@@ -24,14 +27,14 @@ fn parts_form(s: &[u8], p: usize) -> bool
     ensures { λ r. ⌜ r ≡ partsForm (now (s .entry)) p ⌝ }
 {
     let n = wire::byte_or(s, p);
-    1 <= n && n <= 8
+    1 <= n && n <= limits::PARTS
 }
 
 // "variable byte 0 to 7"
 fn variable_form(s: &[u8], p: usize) -> bool
     ensures { λ r. ⌜ r ≡ variableForm (now (s .entry)) p ⌝ }
 {
-    p < s.len() && wire::byte_or(s, p) <= 7
+    p < s.len() && wire::byte_or(s, p) <= LAST_VARIABLE
 }
 
 // The form of a node's own bytes, but for a says node and a constraint.
@@ -70,11 +73,11 @@ fn fitted(f: Fit, at: usize, e: usize) -> Got
 }
 
 // The kinds of a says node's issuer and fact.
-fn says_fit(ks: &[u8], sg: &[u8], s: &[u8], at: usize, t: [u8; 8]) -> Fit
+fn says_fit(ks: &[u8], sg: &[u8], s: &[u8], at: usize, t: [u8; VARIABLES]) -> Fit
     requires { ⌜ at ≤ longest ⌝ }
     ensures { λ r. ⌜ r ≡ feed (saysAsks (now (ks .entry)) (now (sg .entry)) (now (s .entry)) at) t ⌝ }
 {
-    let f = kinds::alike(t, phrases::place_at(ks, s, at + 1), 8);
+    let f = kinds::alike(t, phrases::place_at(ks, s, at + 1), kinds::ANY_PRINCIPAL);
     if f.ok {
         let u = f.of;
         return phrases::fact_fit(ks, sg, s, at + 3, u);
@@ -83,7 +86,7 @@ fn says_fit(ks: &[u8], sg: &[u8], s: &[u8], at: usize, t: [u8; 8]) -> Fit
 }
 
 // A says node: issuer and fact.
-fn says_at(ks: &[u8], sg: &[u8], s: &[u8], at: usize, t: [u8; 8]) -> Got
+fn says_at(ks: &[u8], sg: &[u8], s: &[u8], at: usize, t: [u8; VARIABLES]) -> Got
     requires { ⌜ at ≤ longest ⌝ }
     ensures { λ r. ⌜ r ≡ saysIn (now (ks .entry)) (now (sg .entry)) (now (s .entry)) at t ⌝ }
 {
@@ -103,7 +106,7 @@ fn says_at(ks: &[u8], sg: &[u8], s: &[u8], at: usize, t: [u8; 8]) -> Got
 }
 
 // A constraint node.
-fn test_at(ks: &[u8], s: &[u8], at: usize, t: [u8; 8]) -> Got
+fn test_at(ks: &[u8], s: &[u8], at: usize, t: [u8; VARIABLES]) -> Got
     requires { ⌜ at ≤ longest ⌝ }
     ensures { λ r. ⌜ r ≡ testIn (now (ks .entry)) (now (s .entry)) at t ⌝ }
 {
@@ -125,7 +128,7 @@ fn test_at(ks: &[u8], s: &[u8], at: usize, t: [u8; 8]) -> Got
 }
 
 // The node at `at`, which may hold others d - 1 deep, after items that left the cells t.
-pub fn node(ks: &[u8], sg: &[u8], s: &[u8], d: usize, at: usize, t: [u8; 8]) -> Got
+pub fn node(ks: &[u8], sg: &[u8], s: &[u8], d: usize, at: usize, t: [u8; VARIABLES]) -> Got
     requires { ⌜ length (now s) ≤ longest ⌝ }
     ensures { λ r. ⌜ r ≡ readIn (now (ks .entry)) (now (sg .entry)) (now (s .entry)) d at t ⌝ }
 {
@@ -166,7 +169,7 @@ pub fn node(ks: &[u8], sg: &[u8], s: &[u8], d: usize, at: usize, t: [u8; 8]) -> 
 }
 
 // n nodes from `at` on.
-fn parts(ks: &[u8], sg: &[u8], s: &[u8], d: usize, n: usize, at: usize, t: [u8; 8]) -> Got
+fn parts(ks: &[u8], sg: &[u8], s: &[u8], d: usize, n: usize, at: usize, t: [u8; VARIABLES]) -> Got
     requires { ⌜ (length (now s) ≤ longest) × (n < 256) ⌝ }
     ensures { λ r. ⌜ r ≡ readsBy (readIn (now (ks .entry)) (now (sg .entry)) (now (s .entry)) d) n at t ⌝ }
 {

@@ -14,23 +14,26 @@ ghost use Rattle.request.specs.Tree.{endIn, treeIn};
 ghost use Rattle.request.specs.Safety.{safeWith, notSafe, knownThen, taken, needed, dropped, knownSays, knownIn, knownAllIn, knownAnyIn, judgedUnsafe, judgedKnown, judgedIn};
 use super::tree;
 use super::tree::Shape;
+use limits::DEPTH;
+use limits::FIRST_NODE;
+use limits::VARIABLES;
 use phrases::marks;
 
 // Whether a node is safe where some variables are known before, and those known after it.
 pub struct Known {
     pub safe: bool,
-    pub of: [u8; 8],
+    pub of: [u8; VARIABLES],
 }
 
 // Whether the request is safe, its free variables, and all that it uses, free or bound.
 pub struct Judged {
     pub safe: bool,
-    pub free: [u8; 8],
-    pub used: [u8; 8],
+    pub free: [u8; VARIABLES],
+    pub used: [u8; VARIABLES],
 }
 
 // No variable.
-fn none() -> [u8; 8]
+fn none() -> [u8; VARIABLES]
     ensures { λ r. ⌜ r ≡ none ⌝ }
 {
     [0, 0, 0, 0, 0, 0, 0, 0]
@@ -49,7 +52,7 @@ fn unsafe_here() -> Known
 // ---- free variables
 
 // m with the variables of the says node at `at`.
-fn says_free(sg: &[u8], s: &[u8], at: usize, m: [u8; 8]) -> [u8; 8]
+fn says_free(sg: &[u8], s: &[u8], at: usize, m: [u8; VARIABLES]) -> [u8; VARIABLES]
     requires { ⌜ at ≤ longest ⌝ }
     ensures { λ r. ⌜ r ≡ marked (varsIn (factBy (now (sg .entry)) (now (s .entry)) (at + 3))) (marked (varsOf (exprAt (now (s .entry)) (at + 1))) m) ⌝ }
 {
@@ -57,7 +60,7 @@ fn says_free(sg: &[u8], s: &[u8], at: usize, m: [u8; 8]) -> [u8; 8]
 }
 
 // m with the free variables of the node at `at`.
-fn free_node(sg: &[u8], s: &[u8], d: usize, at: usize, m: [u8; 8]) -> [u8; 8]
+fn free_node(sg: &[u8], s: &[u8], d: usize, at: usize, m: [u8; VARIABLES]) -> [u8; VARIABLES]
     requires { ⌜ length (now s) ≤ longest ⌝ }
     ensures { λ r. ⌜ r ≡ marked (free (treeIn (now (sg .entry)) (now (s .entry)) d at)) m ⌝ }
 {
@@ -83,7 +86,14 @@ fn free_node(sg: &[u8], s: &[u8], d: usize, at: usize, m: [u8; 8]) -> [u8; 8]
 }
 
 // And of n nodes from `at` on.
-fn free_parts(sg: &[u8], s: &[u8], d: usize, n: usize, at: usize, m: [u8; 8]) -> [u8; 8]
+fn free_parts(
+    sg: &[u8],
+    s: &[u8],
+    d: usize,
+    n: usize,
+    at: usize,
+    m: [u8; VARIABLES],
+) -> [u8; VARIABLES]
     requires { ⌜ (length (now s) ≤ longest) × (n < 256) ⌝ }
     ensures { λ r. ⌜ r ≡ marked (freeAll (nodesBy (treeIn (now (sg .entry)) (now (s .entry)) d) (endIn (now (sg .entry)) (now (s .entry)) d) n at)) m ⌝ }
 {
@@ -97,7 +107,7 @@ fn free_parts(sg: &[u8], s: &[u8], d: usize, n: usize, at: usize, m: [u8; 8]) ->
 // ---- binders: "a bound number is used nowhere outside its one binder"
 
 // m with the numbers that the node at `at` binds, if each is new.
-fn binders_node(sg: &[u8], s: &[u8], d: usize, at: usize, m: [u8; 8]) -> Known
+fn binders_node(sg: &[u8], s: &[u8], d: usize, at: usize, m: [u8; VARIABLES]) -> Known
     requires { ⌜ length (now s) ≤ longest ⌝ }
     ensures { λ r. ⌜ r ≡ taken (binders (treeIn (now (sg .entry)) (now (s .entry)) d at)) m ⌝ }
 {
@@ -125,7 +135,7 @@ fn binders_node(sg: &[u8], s: &[u8], d: usize, at: usize, m: [u8; 8]) -> Known
 }
 
 // And of n nodes from `at` on.
-fn binders_parts(sg: &[u8], s: &[u8], d: usize, n: usize, at: usize, m: [u8; 8]) -> Known
+fn binders_parts(sg: &[u8], s: &[u8], d: usize, n: usize, at: usize, m: [u8; VARIABLES]) -> Known
     requires { ⌜ (length (now s) ≤ longest) × (n < 256) ⌝ }
     ensures { λ r. ⌜ r ≡ taken (bindersAll (nodesBy (treeIn (now (sg .entry)) (now (s .entry)) d) (endIn (now (sg .entry)) (now (s .entry)) d) n at)) m ⌝ }
 {
@@ -143,17 +153,17 @@ fn binders_parts(sg: &[u8], s: &[u8], d: usize, n: usize, at: usize, m: [u8; 8])
 // ---- known variables
 
 // What a holds must be known in m.
-fn needed(a: [u8; 8], m: [u8; 8], u: [u8; 8]) -> Known
+fn needed(a: [u8; VARIABLES], m: [u8; VARIABLES], u: [u8; VARIABLES]) -> Known
     ensures { λ r. ⌜ r ≡ needed a m u ⌝ }
 {
-    if marks::within(a, m, 8) {
+    if marks::within(a, m, VARIABLES) {
         return Known { safe: true, of: u };
     }
     unsafe_here()
 }
 
 // "a flat says adds its variables; a nested says needs its fact's known and adds its issuer's"
-fn says_known(sg: &[u8], s: &[u8], at: usize, m: [u8; 8]) -> Known
+fn says_known(sg: &[u8], s: &[u8], at: usize, m: [u8; VARIABLES]) -> Known
     requires { ⌜ at ≤ longest ⌝ }
     ensures { λ r. ⌜ r ≡ knownSays (exprAt (now (s .entry)) (at + 1)) (factBy (now (sg .entry)) (now (s .entry)) (at + 3)) m ⌝ }
 {
@@ -166,7 +176,7 @@ fn says_known(sg: &[u8], s: &[u8], at: usize, m: [u8; 8]) -> Known
 }
 
 // "a constraint needs its variables known"
-fn test_known(s: &[u8], at: usize, m: [u8; 8]) -> Known
+fn test_known(s: &[u8], at: usize, m: [u8; VARIABLES]) -> Known
     requires { ⌜ at ≤ longest ⌝ }
     ensures { λ r. ⌜ r ≡ needed (marked (varsTest (constraintAt (now (s .entry)) (at + 1))) none) m m ⌝ }
 {
@@ -174,7 +184,7 @@ fn test_known(s: &[u8], at: usize, m: [u8; 8]) -> Known
 }
 
 // "and a not its free ones"
-fn not_needs(sg: &[u8], s: &[u8], d: usize, at: usize, m: [u8; 8]) -> Known
+fn not_needs(sg: &[u8], s: &[u8], d: usize, at: usize, m: [u8; VARIABLES]) -> Known
     requires { ⌜ length (now s) ≤ longest ⌝ }
     ensures { λ r. ⌜ r ≡ needed (marked (free (treeIn (now (sg .entry)) (now (s .entry)) d at)) none) m m ⌝ }
 {
@@ -182,7 +192,7 @@ fn not_needs(sg: &[u8], s: &[u8], d: usize, at: usize, m: [u8; 8]) -> Known
 }
 
 // After a not the set is as before.
-fn kept(g: Known, m: [u8; 8]) -> Known
+fn kept(g: Known, m: [u8; VARIABLES]) -> Known
     ensures { λ r. ⌜ r ≡ knownThen g (λ _. safeWith m) ⌝ }
 {
     if g.safe {
@@ -192,7 +202,7 @@ fn kept(g: Known, m: [u8; 8]) -> Known
 }
 
 // "exists needs its variable .. known after, then drops it"
-fn dropped_from(u: [u8; 8], v: usize) -> Known
+fn dropped_from(u: [u8; VARIABLES], v: usize) -> Known
     ensures { λ r. ⌜ r ≡ dropped v u ⌝ }
 {
     if marks::mark_of(u, v) == 1 {
@@ -214,19 +224,19 @@ fn dropped(g: Known, v: usize) -> Known
 }
 
 // "keeps the intersection": of what one part makes known, u, and the parts after it.
-fn met(h: Known, u: [u8; 8]) -> Known
+fn met(h: Known, u: [u8; VARIABLES]) -> Known
     ensures { λ r. ⌜ r ≡ knownThen h (λ w. safeWith (meet 8 u w)) ⌝ }
 {
     if h.safe {
         let b = h.of;
-        let w = marks::meet(u, b, 8);
+        let w = marks::meet(u, b, VARIABLES);
         return Known { safe: true, of: w };
     }
     h
 }
 
 // What is known after the node at `at`, if it is safe where m is known before.
-fn known_node(sg: &[u8], s: &[u8], d: usize, at: usize, m: [u8; 8]) -> Known
+fn known_node(sg: &[u8], s: &[u8], d: usize, at: usize, m: [u8; VARIABLES]) -> Known
     requires { ⌜ length (now s) ≤ longest ⌝ }
     ensures { λ r. ⌜ r ≡ knownIn (treeIn (now (sg .entry)) (now (s .entry)) d at) m ⌝ }
 {
@@ -260,7 +270,7 @@ fn known_node(sg: &[u8], s: &[u8], d: usize, at: usize, m: [u8; 8]) -> Known
 }
 
 // "all-of hands the set on": n parts from `at` on.
-fn known_all(sg: &[u8], s: &[u8], d: usize, n: usize, at: usize, m: [u8; 8]) -> Known
+fn known_all(sg: &[u8], s: &[u8], d: usize, n: usize, at: usize, m: [u8; VARIABLES]) -> Known
     requires { ⌜ (length (now s) ≤ longest) × (n < 256) ⌝ }
     ensures { λ r. ⌜ r ≡ knownAllIn (nodesBy (treeIn (now (sg .entry)) (now (s .entry)) d) (endIn (now (sg .entry)) (now (s .entry)) d) n at) m ⌝ }
 {
@@ -276,7 +286,7 @@ fn known_all(sg: &[u8], s: &[u8], d: usize, n: usize, at: usize, m: [u8; 8]) -> 
 }
 
 // "any-of starts each part alike": n parts from `at` on.
-fn known_any(sg: &[u8], s: &[u8], d: usize, n: usize, at: usize, m: [u8; 8]) -> Known
+fn known_any(sg: &[u8], s: &[u8], d: usize, n: usize, at: usize, m: [u8; VARIABLES]) -> Known
     requires { ⌜ (length (now s) ≤ longest) × (n < 256) ⌝ }
     ensures { λ r. ⌜ r ≡ knownAnyIn (nodesBy (treeIn (now (sg .entry)) (now (s .entry)) d) (endIn (now (sg .entry)) (now (s .entry)) d) n at) m ⌝ }
 {
@@ -300,12 +310,12 @@ fn known_any(sg: &[u8], s: &[u8], d: usize, n: usize, at: usize, m: [u8; 8]) -> 
 // ---- the whole request
 
 // "all free variables are known at the end"
-fn judge_known(f: [u8; 8], u: [u8; 8], k: Known) -> Judged
+fn judge_known(f: [u8; VARIABLES], u: [u8; VARIABLES], k: Known) -> Judged
     ensures { λ r. ⌜ r ≡ judgedKnown f u k ⌝ }
 {
     if k.safe {
         let w = k.of;
-        if marks::within(f, w, 8) {
+        if marks::within(f, w, VARIABLES) {
             return Judged {
                 safe: true,
                 free: f,
@@ -334,11 +344,11 @@ pub fn judge(sg: &[u8], s: &[u8]) -> Judged
     ensures { λ r. ⌜ r ≡ judgedIn (treeIn (now (sg .entry)) (now (s .entry)) maxDepth firstNodeAt) ⌝ }
 {
     let o = none();
-    let f = free_node(sg, s, 8, 9, o);
-    let b = binders_node(sg, s, 8, 9, f);
+    let f = free_node(sg, s, DEPTH, FIRST_NODE, o);
+    let b = binders_node(sg, s, DEPTH, FIRST_NODE, f);
     if b.safe {
         let u = b.of;
-        return judge_known(f, u, known_node(sg, s, 8, 9, o));
+        return judge_known(f, u, known_node(sg, s, DEPTH, FIRST_NODE, o));
     }
     judged_unsafe()
 }

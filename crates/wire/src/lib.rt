@@ -73,7 +73,7 @@ fn label_byte(s: &[u8], p: usize) -> bool
     ensures { λ r. ⌜ r ≡ labelByte (byteAt (now (s .entry)) p) ⌝ }
 {
     let b = byte(s, p);
-    0x21 <= b && b <= 0x7E
+    limits::LOWEST_LABEL_BYTE <= b && b <= limits::HIGHEST_LABEL_BYTE
 }
 
 // n such bytes from p on.
@@ -96,7 +96,7 @@ pub fn label_form(s: &[u8], p: usize, n: usize) -> bool
     ensures { λ r. ⌜ r ≡ labelForm n (now (s .entry)) p ⌝ }
 {
     if 1 <= n {
-        if n <= 32 {
+        if n <= limits::LABEL {
             return label_bytes(s, p, n);
         }
     }
