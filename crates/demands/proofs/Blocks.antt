@@ -11,7 +11,7 @@ use lib.Dec.{T}
 use Rattle.model.specs.Lists.{each, before}
 use Rattle.model.specs.Meant.{Ascends}
 use Rattle.model.specs.Bytes.{byteAt}
-use Rattle.model.specs.Decision.{filled}
+use Rattle.model.specs.Decision.{atFront}
 use Rattle.model.proofs.DecisionFacts.{getD-in}
 use Rattle.demands.specs.Demands.{Filled}
 
@@ -48,7 +48,7 @@ zeros n i = go (decLt i n)
     go (yes h) = getD-replicate n i 0 0 h
     go (no h) = List·getD-eq-default (replicate n 0) 0 (let e : length (replicate {A = ℕ} n 0) ≡ n = length-replicate n 0 in omega arith)
 
-pub filled-is : (n : ℕ) (buffer bytes : List ℕ) → length bytes ≡ n → n ≤ length buffer → Filled n buffer (filled buffer bytes)
+pub filled-is : (n : ℕ) (buffer bytes : List ℕ) → length bytes ≡ n → n ≤ length buffer → Filled n buffer (atFront buffer bytes)
 filled-is n buffer bytes e h = record {
   fits = h;
   long =
@@ -56,7 +56,7 @@ filled-is n buffer bytes e h = record {
       ∙ (ap (λ (m : ℕ). length bytes + m) (length-replicate (length buffer - length bytes) 0) ∙ omega arith);
   rest = λ k l m.
       let q : k ≡ length bytes + (k - length bytes) = omega arith in
-      ap (λ (i : ℕ). getD (filled buffer bytes) i 0) q
+      ap (λ (i : ℕ). getD (atFront buffer bytes) i 0) q
       ∙ (getD-append-add bytes (replicate (length buffer - length bytes) 0) (k - length bytes) 0 ∙ zeros (length buffer - length bytes) (k - length bytes));
 }
 

@@ -18,7 +18,7 @@ use Rattle.model.specs.Meant.{AtMost, Distinct, Ascends, Enumerates, itself}
 use Rattle.model.specs.Rounds.{lastRound}
 use Rattle.model.specs.Steps.{eqSaid, step}
 use Rattle.model.specs.Deciding.{countingIn}
-use Rattle.model.specs.Decision.{Verdict, allow, deny, report, capacity, room, filled}
+use Rattle.model.specs.Decision.{Verdict, allow, deny, report, capacity, room, atFront}
 use Rattle.model.specs.Theorems.{Inputs, DerivableIn, EntryIn, AnswerIn, InReach, answerIn}
 use Rattle.model.proofs.Order.{before-irrefl, ascends-distinct}
 use Rattle.model.proofs.RoundFacts as S
@@ -87,16 +87,18 @@ module _ (P : Policy) (q : Request) where
   module _ (policy request : List ℕ) (h : Inputs policy request P q) where
     pub record-length : (e : Entry) → EntryIn P q e → length (recordOf e) ≡ recordBytes
     record-length e f =
-        ap (λ (n : ℕ). suc (suc n)) (key-length (e .1) (shaped W 𝒜 (λ a m. policy-formed policy P (h .readAs) a (counts↔ P q a .0 m .0)) (e .1) (entry-derives (e .0) (e .1) f)))
+        ap (λ (n : ℕ). suc (suc n)) (key-length (e .1) (shaped W 𝒜 (λ a m. policy-formed policy P (h .readAs) a (counts↔ P q a .0 m .0)) (e .1)
+        (entry-derives (e .0) (e .1) f)))
 
     pub table-of : (facts : List ℕ) (F : List Entry) → Enumerates keyOf (EntryIn P q) F → length F ≤ capacity facts → (v : Verdict) (n : ℕ) (answers : List ℕ)
-        → TableOf P q facts (report v (length F) (lastRound F) n (filled facts (recordsOf F)) answers)
+        → TableOf P q facts (report v (length F) (lastRound F) n (atFront facts (recordsOf F)) answers)
     table-of facts F f l v n answers = record {
       stands = λ b. (
         λ s. (getD F (s .0) none, f .only (getD F (s .0) none) (getD-in none F (s .0) (s .1)), sym (at (s .0) (s .1)) ∙ s .2),
         λ t. let m = in-getD none (f .every (t .0) (t .1)) in (m .0, m .1, at (m .0) (m .1) ∙ (ap recordOf (m .2) ∙ t .2)),
       );
-      ascends = λ i j p k. subst₂ (λ (a b : List ℕ). T (before (drop 2 a) (drop 2 b))) (sym (at i (omega arith))) (sym (at j k)) (ascends-at keyOf none F (f .ascends) i j p k);
+      ascends = λ i j p k. subst₂ (λ (a b : List ℕ). T (before (drop 2 a) (drop 2 b))) (sym (at i (omega arith))) (sym (at j k))
+          (ascends-at keyOf none F (f .ascends) i j p k);
       rounds = λ e m. S.lastRound-in (e .0) (e .1) F (f .every e m);
       last = go (last-of F);
       filled = filled-is (recordBytes * length F) facts (recordsOf F) (blocks-length recordOf recordBytes F long) (omega arith);
@@ -105,10 +107,11 @@ module _ (P : Policy) (q : Request) where
         long : (e : Entry) → List·Memᴰ e F → length (recordOf e) ≡ recordBytes
         long e m = record-length e (f .only e m)
 
-        at : (i : ℕ) → i < length F → recordIn (filled facts (recordsOf F)) i ≡ recordOf (getD F i none)
+        at : (i : ℕ) → i < length F → recordIn (atFront facts (recordsOf F)) i ≡ recordOf (getD F i none)
         at i k = block-at recordOf recordBytes none F _ long i k
 
-        go : ((x : Said) × List·Memᴰ {A = Entry} (lastRound F, x) F) ⊎ ((length F ≡ 0) × (lastRound F ≡ 0)) → ((x : Said) × EntryIn P q (lastRound F, x)) ⊎ ((length F ≡ 0) × (lastRound F ≡ 0))
+        go : ((x : Said) × List·Memᴰ {A = Entry} (lastRound F, x) F) ⊎ ((length F ≡ 0) × (lastRound F ≡ 0))
+            → ((x : Said) × EntryIn P q (lastRound F, x)) ⊎ ((length F ≡ 0) × (lastRound F ≡ 0))
         go (inl m) = inl (m .0, f .only (lastRound F, m .0) (m .1))
         go (inr z) = inr z
 
@@ -121,11 +124,12 @@ module _ (P : Policy) (q : Request) where
     long : (θ : List ℕ) → List·Memᴰ θ A → length θ ≡ answerBytes
     long θ m = binding-length θ (g .only θ m)
 
-    at : (i : ℕ) → i < length A → answerIn (filled answers (answersBytes A)) i ≡ getD A i []
+    at : (i : ℕ) → i < length A → answerIn (atFront answers (answersBytes A)) i ≡ getD A i []
     at i k = block-at answerOf answerBytes [] A _ long i k
 
-    pub answers-of : (v : Verdict) (n r : ℕ) (facts : List ℕ) → ((v ≡ allow) ↔ ((θ : List ℕ) × AnswerIn P q θ)) × ((v ≡ deny) ↔ (¬ ((θ : List ℕ) × AnswerIn P q θ)))
-        → AnswersOf P q answers (report v n r (length A) facts (filled answers (answersBytes A)))
+    pub answers-of : (v : Verdict) (n r : ℕ) (facts : List ℕ) → ((v ≡ allow) ↔ ((θ : List ℕ) × AnswerIn P q θ))
+        × ((v ≡ deny) ↔ (¬ ((θ : List ℕ) × AnswerIn P q θ)))
+        → AnswersOf P q answers (report v n r (length A) facts (atFront answers (answersBytes A)))
     answers-of v n r facts w =
         let l : length A ≤ room answers = b A (ascends-distinct itself A (g .ascends)) (g .only) in
         record {
@@ -135,6 +139,7 @@ module _ (P : Policy) (q : Request) where
             λ s. g .only θ (subst (λ (η : List ℕ). List·Memᴰ η A) (sym (at (s .0) (s .1)) ∙ s .2) (getD-in [] A (s .0) (s .1))),
             λ s. let m = in-getD [] (g .every θ s) in (m .0, m .1, at (m .0) (m .1) ∙ m .2),
           );
-          ascends = λ i j p k. subst₂ (λ (a b : List ℕ). T (before a b)) (sym (at i (omega arith))) (sym (at j k)) (ascends-at itself [] A (g .ascends) i j p k);
+          ascends = λ i j p k. subst₂ (λ (a b : List ℕ). T (before a b)) (sym (at i (omega arith))) (sym (at j k))
+              (ascends-at itself [] A (g .ascends) i j p k);
           filled = filled-is (answerBytes * length A) answers (answersBytes A) (blocks-length answerOf answerBytes A long) (omega arith);
         }

@@ -10,8 +10,13 @@ use Rattle.model.specs.Kinds.{Demands}
 use Rattle.model.specs.Bytes.{byteAt, choose, Reading, got, refused, andThen}
 use Rattle.model.specs.Readings.{Sort, saysSort, testSort, allSort, anySort, notSort, existsSort, noSort, sortOf, assertionAt}
 use Rattle.model.specs.Forms.{Form, ends, broken, noVerb, assertionForm}
-use Rattle.model.specs.Policies.{Item, contents, headed, ended, itemsFrom, listAt, constantItem, verbItem, judged, assertionBy, assertionItem, assertionsFrom, verbsFrom, constantsFrom, readPolicy}
+use Rattle.model.specs.Policies.{Item, contents, headed, ended, itemsFrom, listAt, constantItem, verbItem, judged, assertionBy, assertionItem}
+use Rattle.model.specs.Policies.{assertionsFrom, verbsFrom, constantsFrom, readPolicy}
 use Rattle.model.specs.Nodes.{checkParts, fitted, checkSays, checkTest, checkBy, checkNode, safely, requestFrom, readRequest}
+use Rattle.model.proofs.PolicyReader.{policy-is}
+use Rattle.model.specs.Policies.{computedPolicy}
+use Rattle.model.proofs.RequestReader.{request-is}
+use Rattle.model.specs.Nodes.{computedRequest}
 
 -- a reading that refuses with a number of the list, if it refuses
 abbrev pub RefusesBy : List ℕ → {A : Type 0} → Reading A → Type 0
@@ -29,13 +34,16 @@ module _ (ns : List ℕ) where
   by-turns (got x e) f h k = k x e
   by-turns (refused n p) f h k = h
 
-  by-items : {A : Type 0} (f : List A → ℕ → Reading A) → ((is : List A) (p : ℕ) → RefusesBy ns (f is p)) → (n : ℕ) (is : List (Item A)) (p : ℕ) → RefusesBy ns (itemsFrom f n is p)
+  by-items : {A : Type 0} (f : List A → ℕ → Reading A) → ((is : List A) (p : ℕ) → RefusesBy ns (f is p)) → (n : ℕ) (is : List (Item A)) (p : ℕ)
+      → RefusesBy ns (itemsFrom f n is p)
   unfolding itemsFrom
   by-items f h zero is p = tt
   by-items f h (suc n) is p =
-      by-turns (f (contents is) p) (λ x e. itemsFrom f n (is ++ record { at = p; of = x } ∷ []) e) (h (contents is) p) (λ x e. by-items f h n (is ++ record { at = p; of = x } ∷ []) e)
+      by-turns (f (contents is) p) (λ x e. itemsFrom f n (is ++ record { at = p; of = x } ∷ []) e) (h (contents is) p)
+      (λ x e. by-items f h n (is ++ record { at = p; of = x } ∷ []) e)
 
-  by-list : {A : Type 0} (s : List ℕ) (lowest highest : ℕ) (f : List A → ℕ → Reading A) → T (member 3 ns) → ((is : List A) (p : ℕ) → RefusesBy ns (f is p)) → (p : ℕ)
+  by-list : {A : Type 0} (s : List ℕ) (lowest highest : ℕ) (f : List A → ℕ → Reading A) → T (member 3 ns) → ((is : List A) (p : ℕ) → RefusesBy ns (f is p))
+      → (p : ℕ)
       → RefusesBy ns (listAt s lowest highest f p)
   unfolding listAt
   by-list s lowest highest f t h p = by-choice _ _ _ t (by-choice _ _ _ t (by-choice _ _ _ t (by-items f h _ [] _)))
@@ -72,20 +80,22 @@ unfolding assertionItem
 item-numbers cs vs s before at = assertion-numbers (assertionForm vs s at) cs vs (assertionAt vs s at) at
 
 pub policy-numbers : (s : List ℕ) → RefusesBy ofPolicy (readPolicy s)
-unfolding readPolicy constantsFrom verbsFrom assertionsFrom
-policy-numbers s =
+unfolding computedPolicy constantsFrom verbsFrom assertionsFrom
+policy-numbers s = rw (policy-is s) (
     by-head ofPolicy s _ tt tt
     (by-turns ofPolicy _ _ (by-list ofPolicy s _ _ _ tt (constant-numbers s) _)
     (λ cs e. by-turns ofPolicy _ _ (by-list ofPolicy s _ _ _ tt (verb-numbers s) e)
     (λ vs e. by-turns ofPolicy _ _ (by-list ofPolicy s _ _ _ tt (item-numbers (contents cs) (contents vs) s) e)
     (λ 𝒜 e. by-end ofPolicy s _ e tt))))
+    )
 
 -- ---- the request
 
 abbrev pub ofRequest : List ℕ
 ofRequest = 1 ∷ 2 ∷ 3 ∷ 5 ∷ 7 ∷ []
 
-parts-numbers : (f : Demands → ℕ → Reading Demands) → ((D : Demands) (p : ℕ) → RefusesBy ofRequest (f D p)) → (n : ℕ) (D : Demands) (p : ℕ) → RefusesBy ofRequest (checkParts f n D p)
+parts-numbers : (f : Demands → ℕ → Reading Demands) → ((D : Demands) (p : ℕ) → RefusesBy ofRequest (f D p)) → (n : ℕ) (D : Demands) (p : ℕ)
+    → RefusesBy ofRequest (checkParts f n D p)
 unfolding checkParts
 parts-numbers f h zero D p = tt
 parts-numbers f h (suc n) D p = by-turns ofRequest (f D p) (checkParts f n) (h D p) (parts-numbers f h n)
@@ -105,7 +115,8 @@ module _ (cs : List Constant) (vs : List Verb) (s : List ℕ) where
   unfolding checkTest
   test-numbers D at = by-choice ofRequest _ _ _ tt (by-choice ofRequest _ _ _ (fitted-numbers _ at (at + 6)) tt)
 
-  node-numbers : (σ : Sort) (f : Demands → ℕ → Reading Demands) → ((D : Demands) (p : ℕ) → RefusesBy ofRequest (f D p)) → (D : Demands) (at : ℕ) → RefusesBy ofRequest (checkBy cs vs s σ f D at)
+  node-numbers : (σ : Sort) (f : Demands → ℕ → Reading Demands) → ((D : Demands) (p : ℕ) → RefusesBy ofRequest (f D p)) → (D : Demands) (at : ℕ)
+      → RefusesBy ofRequest (checkBy cs vs s σ f D at)
   unfolding checkBy
   node-numbers saysSort f h D at = says-numbers _ D at
   node-numbers testSort f h D at = test-numbers D at
@@ -125,8 +136,9 @@ module _ (cs : List Constant) (vs : List Verb) (s : List ℕ) where
   safe-numbers q e = by-choice ofRequest _ _ _ tt tt
 
   pub request-numbers : RefusesBy ofRequest (readRequest cs vs s)
-  unfolding readRequest requestFrom
-  request-numbers =
+  unfolding computedRequest requestFrom
+  request-numbers = rw (request-is cs vs s) (
       by-head ofRequest s _ tt tt
       (by-choice ofRequest _ _ _ tt (by-choice ofRequest _ _ _ tt
       (by-turns ofRequest _ _ (nodes-numbers maxDepth _ _) (λ D p. by-turns ofRequest _ _ (by-end ofRequest s _ p tt) safe-numbers))))
+      )

@@ -1,4 +1,4 @@
--- The three demands, as statements about calls of the engine. `proofs/Demands.antt` has a proof of each, under the same name in small letters.
+-- The three demands, as statements about calls of the engine. `proofs/Demands.antt` has a proof of each, under the same name with a small first letter.
 use mathlib.Core.Path.{_≡_}
 use mathlib.Core.Logic.{_↔_, _⊎_}
 use mathlib.Core.List.{List, [], _∷_, List·Memᴰ}
@@ -12,10 +12,10 @@ use Rattle.model.specs.Records.{Entry, recordOf}
 use Rattle.model.specs.Meant.{MoreThan, AtMost}
 use Rattle.model.specs.Deciding.{countingIn}
 use Rattle.model.specs.Bytes.{byteAt, refused}
-use Rattle.model.specs.Policies.{readPolicy}
-use Rattle.model.specs.Nodes.{readRequest}
+use Rattle.model.specs.Layout.{readPolicy, readRequest}
 use Rattle.model.specs.Decision.{Verdict, allow, deny, refusal, Report, report, capacity, room, cleared, untouched, decision}
-use Rattle.model.specs.Theorems.{ReadAs, Inputs, DerivableIn, EntryIn, AnswerIn, InReach, Longer, IssuedOutside, Anyone, Positive, IsDecision, answerIn, ListedIn, RecordsTell, Insiders}
+use Rattle.model.specs.Theorems.{ReadAs, Inputs, DerivableIn, EntryIn, AnswerIn, InReach, Longer, IssuedOutside, Anyone, Positive, IsDecision}
+use Rattle.model.specs.Theorems.{answerIn, ListedIn, RecordsTell, Insiders}
 
 -- what the contract of `decide` says of a call: ρ is what it returned, and what both buffers hold then
 abbrev pub Call : List ℕ → List ℕ → List ℕ → List ℕ → Report → Type 0
@@ -34,15 +34,16 @@ keyIn buffer i = drop 2 (recordIn buffer i)
 abbrev pub StandsIn : Report → List ℕ → Type 0
 StandsIn ρ b = (i : ℕ) × (i < ρ .facts) × (recordIn (ρ .factBuffer) i ≡ b)
 
--- a buffer with `filled` bytes at its front: as long as it was lent, and 0 after them. "Unfilled rest of both buffers: 0."
-pub record Filled (filled : ℕ) (lent buffer : List ℕ) : Type 0 where
-  pub fits : filled ≤ length lent
+-- a buffer with `front` bytes at its front: as long as it was lent, and 0 after them. "Unfilled rest of both buffers: 0."
+pub record Filled (front : ℕ) (lent buffer : List ℕ) : Type 0 where
+  pub fits : front ≤ length lent
   pub long : length buffer ≡ length lent
-  pub rest : (k : ℕ) → filled ≤ k → k < length buffer → byteAt buffer k ≡ 0
+  pub rest : (k : ℕ) → front ≤ k → k < length buffer → byteAt buffer k ≡ 0
 
 -- the fact buffer and the counts of facts and rounds: what demand 2 says of the table
 pub record TableOf (P : Policy) (q : Request) (facts : List ℕ) (ρ : Report) : Type 0 where
-  -- bytes stand there exactly if they are the record of a statement that the rules derive from the assertions within the reach, with the round in which it first appears
+  -- bytes stand there exactly if they are the record of a statement that the rules derive from the assertions within the reach, with the round in which it
+  -- first appears
   pub stands : (b : List ℕ) → StandsIn ρ b ↔ ((e : Entry) × EntryIn P q e × (recordOf e ≡ b))
   -- "Records ascend by bytes 2 to 15", so none stands twice
   pub ascends : (i j : ℕ) → i < j → j < ρ .facts → T (before (keyIn (ρ .factBuffer) i) (keyIn (ρ .factBuffer) j))
@@ -61,7 +62,8 @@ pub record AnswersOf (P : Policy) (q : Request) (answers : List ℕ) (ρ : Repor
   pub ascends : (i j : ℕ) → i < j → j < ρ .answers → T (before (answerIn (ρ .answerBuffer) i) (answerIn (ρ .answerBuffer) j))
   pub filled : Filled (answerBytes * ρ .answers) answers (ρ .answerBuffer)
 
--- ---- demand 1: "Bytes of every sort as policy and request, with buffers of every length, get an end and an answer: a decision, or one of nine numbered refusals with a place, each on its written condition and no other; in either case the buffers' content is laid down."
+-- ---- demand 1: "Bytes of every sort as policy and request, with buffers of every length, get an end and an answer: a decision, or one of nine numbered
+-- refusals with a place, each on its written condition and no other; in either case the buffers' content is laid down."
 -- The contract is an equation for every call, and that the code ends is proved with it. What the equation says:
 
 -- a decision, or a refusal with a number of its side: the state's 8 and 9, the policy's 1 to 6, the request's 1, 2, 3, 5 and 7
@@ -82,10 +84,12 @@ pub record AnsweredAs (policy request facts answers : List ℕ) (ρ : Report) : 
   pub policyKeeps : (n p : ℕ) → readPolicy policy ≡ refused n p → ρ ≡ untouched n 1 p facts answers
   -- side 2, where the policy is accepted, exactly if the request reader refuses
   pub requestSide : (P : Policy) → ReadAs policy P → (n p : ℕ) → (ρ .verdict ≡ refusal n 2 p) ↔ (readRequest (P .constants) (P .verbs) request ≡ refused n p)
-  pub requestKeeps : (P : Policy) → ReadAs policy P → (n p : ℕ) → readRequest (P .constants) (P .verbs) request ≡ refused n p → ρ ≡ untouched n 2 p facts answers
+  pub requestKeeps : (P : Policy) → ReadAs policy P → (n p : ℕ) → readRequest (P .constants) (P .verbs) request ≡ refused n p
+      → ρ ≡ untouched n 2 p facts answers
   -- "8 more derivable facts than capacity, and only then: fact buffer all 0, answer buffer untouched, counts 0."
   pub eight : (P : Policy) (q : Request) → Inputs policy request P q → (ρ .verdict ≡ refusal 8 0 0) ↔ MoreThan (capacity facts) (DerivableIn P q)
-  pub eightLeaves : (P : Policy) (q : Request) → Inputs policy request P q → ρ .verdict ≡ refusal 8 0 0 → ρ ≡ report (refusal 8 0 0) 0 0 0 (cleared facts) answers
+  pub eightLeaves : (P : Policy) (q : Request) → Inputs policy request P q → ρ .verdict ≡ refusal 8 0 0
+      → ρ ≡ report (refusal 8 0 0) 0 0 0 (cleared facts) answers
   -- "9 no 8, but more answers than the answer buffer's length divided by 8, and only then: facts and rounds stand, answers 0, answer buffer all 0."
   pub nine : (P : Policy) (q : Request) → Inputs policy request P q
       → (ρ .verdict ≡ refusal 9 0 0) ↔ (AtMost (capacity facts) (DerivableIn P q) × MoreThan (room answers) (AnswerIn P q))
@@ -98,7 +102,9 @@ pub record AnsweredAs (policy request facts answers : List ℕ) (ρ : Report) : 
 abbrev pub EveryInput : Type 0
 EveryInput = (policy request facts answers : List ℕ) (ρ : Report) → Call policy request facts answers ρ → AnsweredAs policy request facts answers ρ
 
--- ---- demand 2: "Where a decision is given, the fact table holds a statement exactly if the three published rules derive it from the statements within the request's reach, with the round in which it first appears; a request is allowed exactly if some binding makes it hold, and all such bindings are listed once, in order."
+-- ---- demand 2: "Where a decision is given, the fact table holds a statement exactly if the three published rules derive it from the statements within the
+-- request's reach, with the round in which it first appears; a request is allowed exactly if some binding makes it hold, and all such bindings are listed
+-- once, in order."
 
 abbrev pub TheTable : Type 0
 TheTable = (policy request facts answers : List ℕ) (ρ : Report) (P : Policy) (q : Request)
@@ -121,7 +127,8 @@ TheReach = (P : Policy) (q : Request) (a : Assertion) → List·Memᴰ a (counti
 
 -- a record has 16 bytes, and they tell statement and round
 abbrev pub TheRecords : Type 0
-TheRecords = ((policy request : List ℕ) (P : Policy) (q : Request) → Inputs policy request P q → (e : Entry) → EntryIn P q e → length (recordOf e) ≡ recordBytes)
+TheRecords = ((policy request : List ℕ) (P : Policy) (q : Request) → Inputs policy request P q → (e : Entry) → EntryIn P q e
+    → length (recordOf e) ≡ recordBytes)
     × RecordsTell
 
 -- ---- demand 3, over two calls "on one request, with buffers alike in length and in every byte at entry"

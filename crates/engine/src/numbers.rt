@@ -47,7 +47,8 @@ pub fn in_numbers(o: Outcome) -> Report
     match o {
         Outcome::Allow(facts, rounds, answers) => told(1, facts, rounds, answers),
         Outcome::Deny(facts, rounds) => told(2, facts, rounds, 0),
-        Outcome::Refused(number, side, place) => refused(number, side, place, 0, 0),
+        Outcome::PolicyRefused(number, place) => refused(number, 1, place, 0, 0),
+        Outcome::RequestRefused(number, place) => refused(number, 2, place, 0, 0),
         Outcome::TooManyFacts => refused(8, 0, 0, 0, 0),
         Outcome::TooManyAnswers(facts, rounds) => refused(9, 0, 0, facts, rounds),
     }

@@ -1,20 +1,27 @@
 -- The worked cases, by computation.
 use mathlib.Core.Path.{refl}
-use Rattle.model.specs.Bytes.{u16At, u32At, bytesAt, choose, both, andThen}
-use Rattle.model.specs.Readings.{itemEnd, constantAt, verbAt, exprOf, exprsAt, constraintsAt, arityOf, levelsAt, levelsEnd, factAt, factEnd, factsAt, factsEnd, bodyAt, testsAt, assertionAt, assertionEnd, sortOf, endsBy, nodesBy, endBy, nodeEnd, nodeBy, nodeAt}
-use Rattle.model.specs.Forms.{labelForm, itemThere, numberForm, valueForm, constantForm, signatureForm, verbForm, thenForm, operatorForm, operatorsForm, phraseForm, levelsForm, factForm, factsForm, testsForm, bodyForm, statementForm, assertionForm}
-use Rattle.model.specs.Policies.{versionThere, lengthRight, headed, ended, itemsFrom, listAt, constantItem, verbItem, judged, assertionBy, assertionItem, assertionsFrom, verbsFrom, constantsFrom, readPolicy}
-use Rattle.model.specs.Nodes.{partsForm, variableForm, checkParts, fitted, checkSays, checkTest, checkBy, checkNode, safely, requestFrom, readRequest}
+use mathlib.Core.List.{[]}
+use lib.Dec.{T}
+use Rattle.model.specs.Lists.{member}
+use Rattle.model.specs.Syntax.{Policy, Request, says, flat, con, worldOf}
+use Rattle.model.specs.Requests.{issuers}
+use Rattle.model.specs.Reached.{reach}
+use Rattle.model.specs.Bytes.{Reading, got, refused}
+use Rattle.model.specs.Bytes.{u16At, u32At, choose, andThen}
+use Rattle.model.specs.Reader.{sized, times, items, byte, u16, u32, byteIn, rest, list}
+use Rattle.model.specs.Layout.{Accepted, policyOf, label, constant, verb, expr, constraint, levels, fact, assertion, constantItem, verbItem}
+use Rattle.model.specs.Layout.{assertionItem, asking, parts, node, slice, readPolicy, readRequest}
 use Rattle.model.specs.Decision.{decisionOn, decisionBy, decision}
-use Rattle.model.specs.Cases.{Belt, Turnings, Readings}
+use Rattle.model.specs.Theorems.{done, keeps, adds}
+use Rattle.model.proofs.ListFacts.{member-in}
+use Rattle.model.proofs.ReachFacts.{reach-in}
+use Rattle.model.specs.Cases.{P, Q, longerP, Belt, Turnings, Readings, BeltPair}
 
 rows : Belt × Turnings × Readings
 unfolding
-    u16At u32At bytesAt choose both andThen
-    itemEnd constantAt verbAt exprOf exprsAt constraintsAt arityOf levelsAt levelsEnd factAt factEnd factsAt factsEnd bodyAt testsAt assertionAt assertionEnd sortOf endsBy nodesBy endBy nodeEnd nodeBy nodeAt
-    labelForm itemThere numberForm valueForm constantForm signatureForm verbForm thenForm operatorForm operatorsForm phraseForm levelsForm factForm factsForm testsForm bodyForm statementForm assertionForm
-    versionThere lengthRight headed ended itemsFrom listAt constantItem verbItem judged assertionBy assertionItem assertionsFrom verbsFrom constantsFrom readPolicy
-    partsForm variableForm checkParts fitted checkSays checkTest checkBy checkNode safely requestFrom readRequest
+    u16At u32At choose andThen
+    sized times items byte u16 u32 byteIn rest list
+    label constant verb expr constraint levels fact assertion constantItem verbItem assertionItem asking parts node slice readPolicy readRequest
     decisionOn decisionBy decision
 rows = (refl, refl, refl)
 
@@ -26,3 +33,53 @@ turnings = rows .1
 
 pub readings : Readings
 readings = rows .2
+
+-- ---- demand 3 on the belt
+
+abbrev accepted : Reading Accepted → Accepted
+accepted (got A e) = A
+accepted (refused n p) = record { constants = []; verbs = []; assertions = [] }
+
+abbrev asks : Reading Request → Request
+asks (got q e) = q
+asks (refused n p) = record { today = 0; node = says (con 0) (flat (con 0) 0 []) }
+
+abbrev short : Policy
+short = policyOf (accepted (readPolicy P))
+
+abbrev long : Policy
+long = policyOf (accepted (readPolicy longerP))
+
+abbrev asked : Request
+asked = asks (readRequest (short .constants) (short .verbs) Q)
+
+-- Otto is not reached
+not-reached : T (member 2 (reach (worldOf short asked) (short .assertions) (issuers (asked .node) (worldOf short asked)))) → ⊥
+unfolding
+    u16At u32At choose andThen
+    sized times items byte u16 u32 byteIn rest list
+    label constant verb expr constraint levels fact assertion constantItem verbItem assertionItem asking parts node slice readPolicy readRequest
+not-reached t = t
+
+pub beltPair : BeltPair
+unfolding
+    u16At u32At choose andThen
+    sized times items byte u16 u32 byteIn rest list
+    label constant verb expr constraint levels fact assertion constantItem verbItem assertionItem asking parts node slice readPolicy readRequest
+    decisionOn decisionBy decision
+beltPair = record {
+  shorter = short;
+  longer = long;
+  asked = asked;
+  inputs = record { readAs = (accepted (readPolicy P), 114, refl, refl); askedAs = (18, refl) };
+  longerRead = (accepted (readPolicy longerP), 130, refl, refl);
+  outside = record {
+    version = refl;
+    constants = refl;
+    verbs = refl;
+    assertions = keeps _ (keeps _ (keeps _ (adds (λ r. not-reached (member-in (reach-in _ _ _ 2 r))) done)));
+  };
+  positive = tt;
+  shorterDecided = tt;
+  longerDecided = tt;
+}

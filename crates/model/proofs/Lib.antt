@@ -15,4 +15,17 @@ pub mod Growth
 pub mod KindFacts
 pub mod ReadFacts
 pub mod DecisionFacts
+pub mod ReaderLaws
+pub mod ReaderEnds
+pub mod FactReader
+pub mod AssertionReader
+pub mod ItemReader
+pub mod PolicyReader
+pub mod CheckedNodes
+pub mod RequestReader
+pub mod SafetyRules
+pub mod ProperRequests
+pub mod BoundVariables
+pub mod Grounded
+pub mod FreeVariables
 pub mod Theorems

@@ -1,24 +1,28 @@
 -- What an accepted policy is sure to have: each assertion fits, is safe, and has the parameters that its verbs ask for.
 use mathlib.Core.Path.{_≡_, refl, sym, ap, subst, _∙_}
-use mathlib.Core.Logic.{_⊎_, inl, inr, ⊎-elim}
-use mathlib.Core.List.{List, [], _∷_, _++_, map, List·Memᴰ, List·Memᴰ·head, List·Memᴰ·not-nil, List·Memᴰ·eq-of-singleton, List·Memᴰ·append-cases, map-append, Memᴰ·cast}
+use mathlib.Core.Logic.{_⊎_, ⊎-elim}
+use mathlib.Core.List.{List, [], _∷_, _++_, List·Memᴰ, List·Memᴰ·not-nil, List·Memᴰ·eq-of-singleton, List·Memᴰ·append-cases, map-append}
 use mathlib.Core.Bool.{Bool, true, false, not}
 use Prim.Native.Nat.{ℕ, zero, suc, _+_, _<_, _≤_}
 use native.Mathlib.Decide.{decLt}
 use native.Mathlib.Omega.{arith}
-use lib.ListN.{length, getD, length-map, List·getD-eq-default}
-use lib.Dec.{T, eqb, eqb→eq}
-use Rattle.model.specs.Limits.{principal}
-use Rattle.model.specs.Lists.{all, product}
-use Rattle.model.specs.Syntax.{Expr, con, var, today, Fact, flat, canSay, subject, Assertion, Constant, Verb, Policy}
-use Rattle.model.specs.Kinds.{Demands, kindAt, places, demandsOf, kindUnder, inPlace, comparable, meets, kindsFor, choicesOf, fitting, fitsAssertion, variables}
+use lib.ListN.{length, getD, length-map, length-append, List·getD-eq-default}
+use lib.Dec.{T, eqb, ltb, eqb→eq}
+use borrow.Author.Tests.{ltb-false}
+use Rattle.model.specs.Limits.{principal, maxConstants, headerBytes}
+use Rattle.model.specs.Lists.{all}
+use Rattle.model.specs.Syntax.{Expr, con, var, today, Fact, flat, canSay, subject, Assertion, Constant, Verb}
+use Rattle.model.specs.Kinds.{Demands, kindAt, places, demandsOf, inPlace, comparable, meets, kindsFor, choicesOf, fitting, fitsAssertion}
+use Rattle.model.specs.Kinds.{variables}
 use Rattle.model.specs.Safety.{safeAssertion}
-use Rattle.model.specs.Bytes.{choose, Reading, got, refused, andThen}
-use Rattle.model.specs.Readings.{arityOf, exprsAt, exprAt, levelsAt, factAt, assertionAt}
+use Rattle.model.specs.Bytes.{u16At, choose, Reading, got, refused, andThen}
+use Rattle.model.specs.Readings.{arityOf, exprsAt, levelsAt, factAt, assertionAt}
 use Rattle.model.specs.Forms.{Form, ends, broken, noVerb, assertionForm}
-use Rattle.model.specs.Policies.{Item, contents, headed, ended, itemsFrom, listAt, judged, assertionBy, assertionItem, Accepted, policyOf, assertionsFrom, verbsFrom, constantsFrom, readPolicy}
+use Rattle.model.specs.Policies.{Item, contents, headed, ended, itemsFrom, listAt, constantItem, judged, assertionBy, assertionItem, Accepted}
+use Rattle.model.specs.Policies.{policyOf, assertionsFrom, verbsFrom, constantsFrom, computedPolicy, readPolicy}
+use Rattle.model.proofs.PolicyReader.{policy-is}
 use Rattle.model.specs.Records.{Arity}
-use Rattle.model.proofs.ListFacts.{and-of, any-of, all-of}
+use Rattle.model.proofs.ListFacts.{and-of, any-of}
 use Rattle.model.proofs.BindingFacts.{picks-of}
 use Rattle.model.proofs.Inside.{Placed}
 
@@ -39,7 +43,8 @@ module _ {A : Type 0} where
   choose-no true r n p x e h = absurd (never n p e x h)
   choose-no false r n p x e h = (tt, h)
 
-pub andThen-got : {A B : Type 0} (r : Reading A) (f : A → ℕ → Reading B) (y : B) (e : ℕ) → andThen r f ≡ got y e → (x : A) × (p : ℕ) × (r ≡ got x p) × (f x p ≡ got y e)
+pub andThen-got : {A B : Type 0} (r : Reading A) (f : A → ℕ → Reading B) (y : B) (e : ℕ) → andThen r f ≡ got y e → (x : A) × (p : ℕ) × (r ≡ got x p)
+    × (f x p ≡ got y e)
 unfolding andThen
 andThen-got (got x p) f y e h = (x, p, refl, h)
 andThen-got (refused n p) f y e h = absurd (never n p e y h)
@@ -60,7 +65,8 @@ module _ {A : Type 0} (f : List A → ℕ → Reading A) (Q : A → Type 0) (sou
   items-each zero is p js e h r = subst Each (let q : is ≡ js = cc in q) h
   items-each (suc n) is p js e h r =
       let g = andThen-got (f (contents is) p) (λ x e. itemsFrom f n (is ++ record { at = p; of = x } ∷ []) e) js e r in
-      items-each n (is ++ record { at = p; of = g .0 } ∷ []) (g .1) js e (snoc is (record { at = p; of = g .0 }) h (sound (contents is) p (g .0) (g .1) (g .2))) (g .3)
+      items-each n (is ++ record { at = p; of = g .0 } ∷ []) (g .1) js e
+      (snoc is (record { at = p; of = g .0 }) h (sound (contents is) p (g .0) (g .1) (g .2))) (g .3)
 
   pub list-each : (s : List ℕ) (lowest highest p : ℕ) (js : List (Item A)) (e : ℕ) → listAt s lowest highest f p ≡ got js e → Each js
   unfolding listAt
@@ -69,6 +75,31 @@ module _ {A : Type 0} (f : List A → ℕ → Reading A) (Q : A → Type 0) (sou
       let b = choose-no _ _ 3 p js e (a .1) in
       let c = choose-no _ _ 3 p js e (b .1) in
       items-each _ [] _ js e (λ x m. absurd (List·Memᴰ·not-nil m)) (c .1)
+
+-- how many items a list has: as many as its count says, which is in its range
+module _ {A : Type 0} (f : List A → ℕ → Reading A) where
+  items-count : (n : ℕ) (is : List (Item A)) (p : ℕ) (js : List (Item A)) (e : ℕ) → itemsFrom f n is p ≡ got js e → length js ≡ length is + n
+  unfolding itemsFrom
+  items-count zero is p js e r = let q : length js ≡ length is = ap length (let q : js ≡ is = cc in q) in omega arith
+  items-count (suc n) is p js e r =
+      let g = andThen-got (f (contents is) p) (λ x e. itemsFrom f n (is ++ record { at = p; of = x } ∷ []) e) js e r in
+      let i = items-count n (is ++ record { at = p; of = g .0 } ∷ []) (g .1) js e (g .3) in
+      let j = length-append is (record { at = p; of = g .0 } ∷ []) in
+      omega arith
+
+  pub list-count : (s : List ℕ) (lowest highest p : ℕ) (js : List (Item A)) (e : ℕ) → listAt s lowest highest f p ≡ got js e → length js ≤ highest
+  unfolding listAt
+  list-count s lowest highest p js e r =
+      let a = choose-no _ _ 3 p js e r in
+      let b = choose-no _ _ 3 p js e (a .1) in
+      let c = choose-no (ltb highest (u16At s p)) _ 3 p js e (b .1) in
+      let n = items-count _ [] _ js e (c .1) in
+      let h = ltb-false highest (u16At s p) (no (ltb highest (u16At s p)) (c .0)) in
+      omega arith
+    where
+      no : (b : Bool) → T (not b) → b ≡ false
+      no true t = absurd t
+      no false t = refl
 
 -- ---- assertions
 
@@ -92,7 +123,8 @@ head-arity : (vs : List Verb) (s : List ℕ) (at : ℕ) → Arity vs (assertionA
 unfolding assertionAt factAt
 head-arity vs s at = levels-arity vs _ s _
 
-item-fine : (cs : List Constant) (vs : List Verb) (s : List ℕ) (before : List Assertion) (at : ℕ) (a : Assertion) (e : ℕ) → assertionItem cs vs s before at ≡ got a e → Fine cs vs a
+item-fine : (cs : List Constant) (vs : List Verb) (s : List ℕ) (before : List Assertion) (at : ℕ) (a : Assertion) (e : ℕ)
+    → assertionItem cs vs s before at ≡ got a e → Fine cs vs a
 unfolding assertionItem assertionBy judged
 item-fine cs vs s before at a e r = go (assertionForm vs s at) r
   where
@@ -105,25 +137,38 @@ item-fine cs vs s before at a e r = go (assertionForm vs s at) r
     go noVerb h = absurd (never 5 at e a h)
 
 module _ {A : Type 0} where
-  headed-got : (s : List ℕ) (r : Reading A) (x : A) (e : ℕ) → headed s r ≡ got x e → r ≡ got x e
+  pub headed-got : (s : List ℕ) (r : Reading A) (x : A) (e : ℕ) → headed s r ≡ got x e → r ≡ got x e
   unfolding headed
   headed-got s r x e h = choose-yes _ _ 2 1 x e (choose-yes _ _ 1 0 x e h .1) .1
 
-  ended-got : (s : List ℕ) (x y : A) (p e : ℕ) → ended s x p ≡ got y e → x ≡ y
+  pub ended-got : (s : List ℕ) (x y : A) (p e : ℕ) → ended s x p ≡ got y e → x ≡ y
   unfolding ended
   ended-got s x y p e h = let w = choose-yes _ _ 3 p y e h .1 in cc
 
 -- each assertion of an accepted policy
 pub accepted-fine : (s : List ℕ) (A : Accepted) (e : ℕ) → readPolicy s ≡ got A e
     → (a : Assertion) → List·Memᴰ a (policyOf A .assertions) → Fine (policyOf A .constants) (policyOf A .verbs) a
-unfolding readPolicy constantsFrom verbsFrom assertionsFrom
+unfolding computedPolicy constantsFrom verbsFrom assertionsFrom
 accepted-fine s A e r =
-    let c = andThen-got _ _ A e (headed-got s _ A e r) in
+    let c = andThen-got _ _ A e (headed-got s _ A e (sym (policy-is s) ∙ r)) in
     let v = andThen-got _ _ A e (c .3) in
     let a = andThen-got _ _ A e (v .3) in
     let q = ended-got s _ A (a .1) e (a .3) in
     subst (λ (B : Accepted). (x : Assertion) → List·Memᴰ x (policyOf B .assertions) → Fine (policyOf B .constants) (policyOf B .verbs) x) q
-    (list-each (assertionItem (contents (c .0)) (contents (v .0)) s) (Fine (contents (c .0)) (contents (v .0))) (item-fine (contents (c .0)) (contents (v .0)) s) s 0 _ (v .1) (a .0) (a .1) (a .2))
+    (list-each (assertionItem (contents (c .0)) (contents (v .0)) s) (Fine (contents (c .0)) (contents (v .0)))
+    (item-fine (contents (c .0)) (contents (v .0)) s) s 0 _ (v .1) (a .0) (a .1) (a .2))
+
+-- "Constants (1 to 255 ..)"
+pub accepted-count : (s : List ℕ) (A : Accepted) (e : ℕ) → readPolicy s ≡ got A e → length (policyOf A .constants) ≤ 255
+unfolding computedPolicy constantsFrom verbsFrom assertionsFrom
+accepted-count s A e r =
+    let c = andThen-got _ _ A e (headed-got s _ A e (sym (policy-is s) ∙ r)) in
+    let v = andThen-got _ _ A e (c .3) in
+    let a = andThen-got _ _ A e (v .3) in
+    let q = ended-got s _ A (a .1) e (a .3) in
+    let n = list-count (constantItem s) s 1 maxConstants headerBytes (c .0) (c .1) (c .2) in
+    let m = length-map (c .0) (λ (i : Item Constant). i .of) in
+    subst (λ (B : Accepted). length (policyOf B .constants) ≤ 255) q (omega arith)
 
 -- ---- what a fitting head has: its subject is a constant or a variable of the eight
 
@@ -136,10 +181,12 @@ placed cs κ (var v) l t = go (decLt v 8)
   where
     go : Dec (v < 8) → v < 8
     go (yes h) = h
-    go (no h) = absurd (let z : getD κ v 0 ≡ 1 = eqb→eq (getD κ v 0) 1 t in let w : getD κ v 0 ≡ 0 = List·getD-eq-default κ 0 (let q : 8 ≤ v = omega arith in rw l q) in omega arith)
+    go (no h) = absurd (let z : getD κ v 0 ≡ 1 = eqb→eq (getD κ v 0) 1 t in
+        let w : getD κ v 0 ≡ 0 = List·getD-eq-default κ 0 (let q : 8 ≤ v = omega arith in rw l q) in omega arith)
 placed cs κ today l t = absurd t
 
-subject-first : (cs : List Constant) (vs : List Verb) (κ : List ℕ) (f : Fact Expr) (ps : List (ℕ × Expr)) → T (all (inPlace cs κ) (places vs f ++ ps)) → T (inPlace cs κ (principal, subject f))
+subject-first : (cs : List Constant) (vs : List Verb) (κ : List ℕ) (f : Fact Expr) (ps : List (ℕ × Expr)) → T (all (inPlace cs κ) (places vs f ++ ps))
+    → T (inPlace cs κ (principal, subject f))
 subject-first cs vs κ (flat s v es) ps t = and-of (inPlace cs κ (principal, s)) _ t .0
 subject-first cs vs κ (canSay s d f) ps t = and-of (inPlace cs κ (principal, s)) _ t .0
 

@@ -1,32 +1,28 @@
--- The proofs of `specs/Theorems.antt`, each under its statement's name in small letters.
+-- The proofs of `specs/Theorems.antt`, each under its statement's name with a small first letter.
 use mathlib.Core.Path.{_≡_, refl, sym, ap, subst, subst₂, _∙_}
-use mathlib.Core.Logic.{_↔_, _⊎_, inl, inr, ⊎-elim}
-use mathlib.Core.List.{List, [], _∷_, map, List·Memᴰ, List·Memᴰ·head, List·Memᴰ·tail, List·Memᴰ·not-nil, tail-eq-of-cons-eq}
-use mathlib.Core.Bool.{Bool, true, false, cond}
-use Prim.Native.Nat.{ℕ, zero, suc, _≤_, _<_}
+use mathlib.Core.Logic.{_↔_}
+use mathlib.Core.List.{List, [], _∷_, List·Memᴰ, List·Memᴰ·head, List·Memᴰ·not-nil, tail-eq-of-cons-eq}
+use Prim.Native.Nat.{ℕ, _≤_, _<_}
 use native.Mathlib.Omega.{arith}
-use lib.ListN.{length, getD}
-use lib.Dec.{T, eqb, eqb→eq}
-use Rattle.model.specs.Limits.{answerBytes}
-use Rattle.model.specs.Lists.{all, any, keep, each}
-use Rattle.model.specs.Syntax.{Expr, con, var, today, Assertion, Constant, Policy, Request, Node, World, worldOf, Said, said, subject}
-use Rattle.model.specs.Kinds.{Demands, inPlace, comparable, meets, kindOf, isVar, variables}
-use Rattle.model.specs.Values.{choices}
+use native.Mathlib.Decide.{decLt}
+use lib.ListN.{length, getD, List·getD-eq-default}
+use Rattle.model.specs.Limits.{unbound, answerBytes}
+use Rattle.model.specs.Lists.{all, each}
+use Rattle.model.specs.Syntax.{today, Assertion, Constant, Policy, Request, Node, World, worldOf}
+use Rattle.model.specs.Kinds.{noConstant, demandsIn, inPlace, comparable}
 use Rattle.model.specs.Closure.{Derives, First}
 use Rattle.model.specs.Rules.{Rule}
 use Rattle.model.specs.Requests.{issuers, kindsIn, freeKinds, bindingsIn}
-use Rattle.model.specs.Records.{Entry, keyOf, recordOf, answersBytes, Arity}
-use Rattle.model.specs.Meant.{Outcome, tooManyFacts, tooManyAnswers, decided, MoreThan, AtMost, Enumerates, Derivable, FirstIn, Satisfies, itself, Meant, fullTable, fullAnswers, allListed}
+use Rattle.model.specs.Records.{Entry, keyOf, answersBytes, Arity}
+use Rattle.model.specs.Meant.{Outcome, decided, MoreThan, AtMost, Enumerates, Derivable, FirstIn, Satisfies, itself, Meant, fullTable}
+use Rattle.model.specs.Meant.{fullAnswers, allListed}
 use Rattle.model.specs.Steps.{eqSaid, step}
 use Rattle.model.specs.Reached.{issuedIn, reach, counting}
 use Rattle.model.specs.Deciding.{outcome, decide, countingIn}
-use Rattle.model.specs.Bytes.{Reading, got}
-use Rattle.model.specs.Policies.{Accepted, policyOf}
-use Rattle.model.specs.Nodes.{readRequest}
-use Rattle.model.specs.Decision.{Verdict, allow, deny, refusal, Report, capacity, room, filled, word, reported, decision}
+use Rattle.model.specs.Decision.{allow, deny, refusal, Report, capacity, room, atFront, word, reported, decision}
 use Rattle.model.specs.Theorems as Q
-use Rattle.model.specs.Theorems.{Inputs, ReadAs, Longer, Adds, IsDecision, ListedIn, answerIn, DerivableIn, EntryIn, AnswerIn, MeantBy}
-use Rattle.model.proofs.ListFacts.{and-of, all-of, keep-of, keep-in, member-of, member-in}
+use Rattle.model.specs.Theorems.{Inputs, ReadAs, Longer, IsDecision, ListedIn, answerIn, MeantBy}
+use Rattle.model.proofs.ListFacts.{and-of, keep-of, keep-in, member-of, member-in}
 use Rattle.model.proofs.ClosureFacts.{derives↔within, derives-more}
 use Rattle.model.proofs.RoundFacts as S
 use Rattle.model.proofs.BindingFacts.{bindings-of}
@@ -37,11 +33,15 @@ use Rattle.model.proofs.OutcomeFacts.{clash, meant-unique, meant, same-
 use Rattle.model.proofs.Outside.{counting-same}
 use Rattle.model.proofs.Inside.{inside}
 use Rattle.model.proofs.Growth.{holds-more, rule-grows}
-use Rattle.model.proofs.ReadFacts.{Fine, accepted-fine, subject-placed}
+use Rattle.model.proofs.ReadFacts.{Fine, accepted-fine, accepted-count, subject-placed}
 use Rattle.model.proofs.KindFacts.{fitting↔, one-kind}
 use Rattle.model.proofs.DecisionFacts.{reports, rounds-facts, answer-at, getD-in, in-getD}
+use Rattle.model.proofs.ProperRequests.{safely-asked}
+use Rattle.model.proofs.BoundVariables.{instances}
+use Rattle.model.proofs.Grounded.{grounded}
+use Rattle.model.proofs.FreeVariables.{whole, free-placed, answering, answered}
 
--- ---- 1
+-- ---- rules and rounds
 
 pub rulesAreRounds : Q.RulesAreRounds
 rulesAreRounds W 𝒜 x = derives↔within (Rule W 𝒜) x
@@ -58,15 +58,17 @@ tableEntries W 𝒜 c h r x = (
 pub roundsAtMostFacts : Q.RoundsAtMostFacts
 roundsAtMostFacts = rounds-facts
 
--- ---- 2
+-- ---- the outcome
 
 -- the assertions of an accepted policy, and those of them that count
 policy-fine : (policy : List ℕ) (P : Policy) → ReadAs policy P → (a : Assertion) → List·Memᴰ a (P .assertions) → Fine (P .constants) (P .verbs) a
-policy-fine policy P h = subst (λ (P : Policy). (a : Assertion) → List·Memᴰ a (P .assertions) → Fine (P .constants) (P .verbs) a) (h .3) (accepted-fine policy (h .0) (h .1) (h .2))
+policy-fine policy P h = subst (λ (P : Policy). (a : Assertion) → List·Memᴰ a (P .assertions) → Fine (P .constants) (P .verbs) a) (h .3)
+    (accepted-fine policy (h .0) (h .1) (h .2))
 
 module _ (policy request : List ℕ) (P : Policy) (q : Request) (h : Inputs policy request P q) where
   counting-arity : (a : Assertion) → List·Memᴰ a (countingIn P q) → Arity (P .verbs) (a .head)
-  counting-arity a m = policy-fine policy P (h .readAs) a (keep-of (issuedIn (reach (worldOf P q) (P .assertions) (issuers (q .node) (worldOf P q)))) (P .assertions) m .0) .arity
+  counting-arity a m = policy-fine policy P (h .readAs) a (keep-of (issuedIn (reach (worldOf P q) (P .assertions) (issuers (q .node) (worldOf P q))))
+      (P .assertions) m .0) .arity
 
   meant-by : (c r : ℕ) → MeantBy P q c r (decide P q c r)
   meant-by c r = meant (worldOf P q) (countingIn P q) (q .node) c r counting-arity
@@ -76,7 +78,8 @@ meaning policy request facts answers P q h = (
   decide P q (capacity facts) (room answers),
   reports policy request facts answers P q h,
   meant-by policy request P q h (capacity facts) (room answers),
-  λ o m. meant-unique (worldOf P q) (countingIn P q) (q .node) (capacity facts) (room answers) o _ m (meant-by policy request P q h (capacity facts) (room answers)),
+  λ o m. meant-unique (worldOf P q) (countingIn P q) (q .node) (capacity facts) (room answers) o _ m
+      (meant-by policy request P q h (capacity facts) (room answers)),
 )
 
 -- verdicts differ
@@ -108,19 +111,23 @@ module _ (W : World) (𝒜 : List Assertion) (n : Node) (c r : ℕ) (facts answe
 pub eight : Q.Eight
 eight policy request facts answers P q h =
     rw (reports policy request facts answers P q h)
-    (eight↔ (worldOf P q) (countingIn P q) (q .node) (capacity facts) (room answers) facts answers (meant-by policy request P q h (capacity facts) (room answers)))
+    (eight↔ (worldOf P q) (countingIn P q) (q .node) (capacity facts) (room answers) facts answers
+    (meant-by policy request P q h (capacity facts) (room answers)))
 
 pub nine : Q.Nine
 nine policy request facts answers P q h =
     rw (reports policy request facts answers P q h)
-    (nine↔ (worldOf P q) (countingIn P q) (q .node) (capacity facts) (room answers) facts answers (meant-by policy request P q h (capacity facts) (room answers)))
+    (nine↔ (worldOf P q) (countingIn P q) (q .node) (capacity facts) (room answers) facts answers
+    (meant-by policy request P q h (capacity facts) (room answers)))
 
 pub decides : Q.Decides
 decides policy request facts answers P q h a b =
-    let d = decided-as (worldOf P q) (countingIn P q) (q .node) (capacity facts) (room answers) facts answers (meant-by policy request P q h (capacity facts) (room answers)) a b in
+    let d = decided-as (worldOf P q) (countingIn P q) (q .node) (capacity facts) (room answers) facts answers
+    (meant-by policy request P q h (capacity facts) (room answers)) a b in
     (d .0, d .1, d .2, d .3, reports policy request facts answers P q h ∙ ap (λ (o : Outcome). reported o facts answers) (d .4))
 
-allow↔ : {X : List ℕ → Type 0} (A : List (List ℕ)) → Enumerates itself X A → ((word A ≡ allow) ↔ ((θ : List ℕ) × X θ)) × ((word A ≡ deny) ↔ (¬ ((θ : List ℕ) × X θ)))
+allow↔ : {X : List ℕ → Type 0} (A : List (List ℕ)) → Enumerates itself X A → ((word A ≡ allow) ↔ ((θ : List ℕ) × X θ))
+    × ((word A ≡ deny) ↔ (¬ ((θ : List ℕ) × X θ)))
 allow↔ [] e = (
   (λ k. absurd (let z : _≡_ {A = ℕ} 0 1 = cc in omega arith), λ k. absurd (List·Memᴰ·not-nil (e .every (k .0) (k .1)))),
   (λ k m. List·Memᴰ·not-nil (e .every (m .0) (m .1)), λ k. refl),
@@ -137,7 +144,8 @@ allows policy request facts answers P q h a b =
 
 pub recordsTell : Q.RecordsTell
 recordsTell policy request P q h e e′ f g r =
-    same-entry W 𝒜 (q .node) 0 0 k e e′ f g (same-key W 𝒜 k (e .1) (e′ .1) (fits W 𝒜 k (e .1) (derived e f)) (fits W 𝒜 k (e′ .1) (derived e′ g)) (tail-eq-of-cons-eq (tail-eq-of-cons-eq r)))
+    same-entry W 𝒜 (q .node) 0 0 k e e′ f g (same-key W 𝒜 k (e .1) (e′ .1) (fits W 𝒜 k (e .1) (derived e f)) (fits W 𝒜 k (e′ .1) (derived e′ g))
+    (tail-eq-of-cons-eq (tail-eq-of-cons-eq r)))
   where
     W : World
     W = worldOf P q
@@ -151,7 +159,7 @@ recordsTell policy request P q h e e′ f g r =
     derived : (e : Entry) → First (Rule W 𝒜) (e .0) (e .1) → Derives (Rule W 𝒜) (e .1)
     derived e f = S.first→derives eqSaid (step W 𝒜) (Rule W 𝒜) eqSaid-of eqSaid-refl (step-of W 𝒜) (step-in W 𝒜) (e .0) (e .1) f
 
--- ---- 3
+-- ---- the reach
 
 pub computedReach : Q.ComputedReach
 computedReach W 𝒜 asked = (
@@ -162,10 +170,11 @@ computedReach W 𝒜 asked = (
   ),
 )
 
--- ---- 4
+-- ---- added assertions
 
 -- the longer policy's world and request are the shorter's
-longer-inputs : {X : Assertion → Type 0} (policy longer request : List ℕ) (P L : Policy) (q : Request) → Inputs policy request P q → ReadAs longer L → Longer X P L → Inputs longer request L q
+longer-inputs : {X : Assertion → Type 0} (policy longer request : List ℕ) (P L : Policy) (q : Request) → Inputs policy request P q → ReadAs longer L
+    → Longer X P L → Inputs longer request L q
 longer-inputs policy longer request P L q h l x = record {
   readAs = l;
   askedAs = (h .askedAs .0, rw (x .constants, x .verbs) (h .askedAs .1));
@@ -174,7 +183,8 @@ longer-inputs policy longer request P L q h l x = record {
 longer-world : {X : Assertion → Type 0} (P L : Policy) (q : Request) → Longer X P L → worldOf L q ≡ worldOf P q
 longer-world P L q x = λ i. record { constants = x .constants i; verbs = x .verbs i; today = q .today }
 
-longer-counts : {X : Assertion → Type 0} (P L : Policy) (q : Request) (x : Longer X P L) → countingIn L q ≡ counting (worldOf P q) (L .assertions) (issuers (q .node) (worldOf P q))
+longer-counts : {X : Assertion → Type 0} (P L : Policy) (q : Request) (x : Longer X P L)
+    → countingIn L q ≡ counting (worldOf P q) (L .assertions) (issuers (q .node) (worldOf P q))
 longer-counts P L q x = ap (λ (W : World). counting W (L .assertions) (issuers (q .node) W)) (longer-world P L q x)
 
 pub outsiders : Q.Outsiders
@@ -202,7 +212,8 @@ binding-length W n θ m = bindings-of (W .constants) (freeKinds W n) θ m .0
 
 module _ (W : World) (𝒜 : List Assertion) (n : Node) (c r : ℕ) (facts answers : List ℕ) where
   -- listed ↔ satisfying, where there is a decision
-  listed↔ : {o : Outcome} → Meant W 𝒜 n c r o → IsDecision (reported o facts answers .verdict) → (θ : List ℕ) → ListedIn (reported o facts answers) θ ↔ Satisfies W 𝒜 n θ
+  listed↔ : {o : Outcome} → Meant W 𝒜 n c r o → IsDecision (reported o facts answers .verdict) → (θ : List ℕ) → ListedIn (reported o facts answers) θ
+      ↔ Satisfies W 𝒜 n θ
   listed↔ (fullTable m) k θ = absurd k
   listed↔ (fullAnswers a f m) k θ = absurd k
   listed↔ (allListed {F} {A} a f b g) k θ = (
@@ -210,7 +221,7 @@ module _ (W : World) (𝒜 : List Assertion) (n : Node) (c r : ℕ) (facts answe
     λ s. let m = in-getD [] (g .every θ s) in (m .0, m .1, at (m .0) (m .1) ∙ m .2),
   )
     where
-      at : (i : ℕ) → i < length A → answerIn (filled answers (answersBytes A)) i ≡ getD A i []
+      at : (i : ℕ) → i < length A → answerIn (atFront answers (answersBytes A)) i ≡ getD A i []
       at i l = answer-at A _ (λ η m. binding-length W n η (g .only η m .0)) i l
 
 pub growing : Q.Growing
@@ -220,8 +231,10 @@ growing policy longer request facts answers P L q h l x p d d′ θ k =
     let i = longer-inputs policy longer request P L q h l x in
     let e = reports policy request facts answers P q h in
     let e′ = reports longer request facts answers L q i in
-    let now = listed↔ (worldOf L q) (countingIn L q) (q .node) (capacity facts) (room answers) facts answers (meant-by longer request L q i (capacity facts) (room answers)) (subst (λ (r : Report). IsDecision (r .verdict)) e′ d′) θ in
-    let then = listed↔ W (countingIn P q) (q .node) (capacity facts) (room answers) facts answers (meant-by policy request P q h (capacity facts) (room answers)) (subst (λ (r : Report). IsDecision (r .verdict)) e d) θ in
+    let now = listed↔ (worldOf L q) (countingIn L q) (q .node) (capacity facts) (room answers) facts answers
+    (meant-by longer request L q i (capacity facts) (room answers)) (subst (λ (r : Report). IsDecision (r .verdict)) e′ d′) θ in
+    let then = listed↔ W (countingIn P q) (q .node) (capacity facts) (room answers) facts answers
+    (meant-by policy request P q h (capacity facts) (room answers)) (subst (λ (r : Report). IsDecision (r .verdict)) e d) θ in
     let s = then .0 (subst (λ (r : Report). ListedIn r θ) e k) in
     let s′ : Satisfies W (counting W (L .assertions) asked) (q .node) θ = (
       s .0,
@@ -231,10 +244,45 @@ growing policy longer request facts answers P L q h l x p d d′ θ k =
     subst (λ (r : Report). ListedIn r θ) (sym e′)
     (now .1 (subst₂ (λ (W : World) (𝒜 : List Assertion). Satisfies W 𝒜 (q .node) θ) (sym (longer-world P L q x)) (sym (longer-counts P L q x)) s′))
 
--- ---- 5
+-- ---- kinds and bindings
 
-pub fitting : Q.Fitting
-fitting cs D = fitting↔ cs D
+pub kindsFit : Q.KindsFit
+kindsFit cs D = (λ t. let w = fitting↔ cs D .0 t in (w .0, (w .1, w .2, w .3)), λ w. fitting↔ cs D .1 (w .0, w .1 .0, w .1 .1, w .1 .2))
 
 pub oneKind : Q.OneKind
 oneKind cs D κ t v h = one-kind cs κ (D .places) (and-of (all (inPlace cs κ) (D .places)) (all (comparable cs κ) (D .tests)) t .0) v h
+
+pub instanceBindings : Q.InstanceBindings
+instanceBindings policy P q r a m θ = instances policy P r (q .today) a m θ
+
+pub answerBindings : Q.AnswerBindings
+answerBindings policy request P q i θ = answering policy request P q (i .readAs) (i .askedAs) θ
+
+pub wholeNodeFits : Q.WholeNodeFits
+wholeNodeFits policy request P q i = kindsFit (P .constants) (demandsIn (q .node) (P .verbs)) .0 (whole policy request P q (i .readAs) (i .askedAs) .fit)
+
+pub belowUnbound : Q.BelowUnbound
+belowUnbound policy P r c n = go (decLt c unbound)
+  where
+    few : length (P .constants) ≤ 255
+    few = subst (λ (Q : Policy). length (Q .constants) ≤ 255) (r .3) (accepted-count policy (r .0) (r .1) (r .2))
+
+    go : Dec (c < unbound) → c < unbound
+    go (yes h) = h
+    go (no h) = absurd (n (ap (λ (x : Constant). x .kind) (List·getD-eq-default (P .constants) noConstant
+        (let l : length (P .constants) ≤ c = omega (arith, few) in l))))
+
+pub freeAnswers : Q.FreeAnswers
+freeAnswers policy request P q i θ a v t =
+    let k = answered policy request P q (i .readAs) (i .askedAs) θ (a .0) v t in
+    (k .0, k .1, belowUnbound policy P (i .readAs) (getD θ v unbound) (λ z. free-placed policy request P q (i .readAs) (i .askedAs) v t (sym (k .1) ∙ z)))
+
+-- ---- ground
+
+pub ground : Q.Ground
+ground policy request P q i x d = grounded policy P q (i .readAs) x d
+
+-- ---- safety
+
+pub safelyAsked : Q.SafelyAsked
+safelyAsked policy request P h n e r = safely-asked policy request P h n e r

@@ -4,13 +4,11 @@ use mathlib.Core.List.{List, [], _∷_, _++_}
 use lib.ListN.{length, replicate}
 use Rattle.model.specs.Limits.{recordBytes, maxRecords, answerBytes}
 use Rattle.model.specs.Syntax.{Policy, Request}
-use Rattle.model.specs.Rounds.{lastRound}
-use Rattle.model.specs.Records.{Entry, recordsOf, answersBytes}
+use Rattle.model.specs.Records.{Entry, recordsOf, lastRound, answersBytes}
 use Rattle.model.specs.Meant.{Outcome, tooManyFacts, tooManyAnswers, decided}
 use Rattle.model.specs.Deciding.{decide}
 use Rattle.model.specs.Bytes.{Reading, got, refused}
-use Rattle.model.specs.Policies.{Accepted, policyOf, readPolicy}
-use Rattle.model.specs.Nodes.{readRequest}
+use Rattle.model.specs.Layout.{Accepted, policyOf, readPolicy, readRequest}
 
 -- "the decision word or a refusal's number, side and place"
 pub data Verdict : Type 0 where
@@ -36,9 +34,9 @@ capacity buffer = min (length buffer / recordBytes) maxRecords
 abbrev pub room : List ℕ → ℕ
 room buffer = length buffer / answerBytes
 
--- "Unfilled rest of both buffers: 0."
-abbrev pub filled : List ℕ → List ℕ → List ℕ
-filled buffer bytes = bytes ++ replicate (length buffer - length bytes) 0
+-- what is written at the front of a buffer. "Unfilled rest of both buffers: 0."
+abbrev pub atFront : List ℕ → List ℕ → List ℕ
+atFront buffer bytes = bytes ++ replicate (length buffer - length bytes) 0
 
 abbrev pub cleared : List ℕ → List ℕ
 cleared buffer = replicate (length buffer) 0
@@ -55,9 +53,9 @@ untouched number side place facts answers = report (refusal number side place) 0
 -- "8 ..: fact buffer all 0, answer buffer untouched, counts 0. 9 ..: facts and rounds stand, answers 0, answer buffer all 0."
 abbrev pub reported : Outcome → List ℕ → List ℕ → Report
 reported tooManyFacts facts answers = report (refusal 8 0 0) 0 0 0 (cleared facts) answers
-reported (tooManyAnswers F) facts answers = report (refusal 9 0 0) (length F) (lastRound F) 0 (filled facts (recordsOf F)) (cleared answers)
+reported (tooManyAnswers F) facts answers = report (refusal 9 0 0) (length F) (lastRound F) 0 (atFront facts (recordsOf F)) (cleared answers)
 reported (decided F A) facts answers =
-    report (word A) (length F) (lastRound F) (length A) (filled facts (recordsOf F)) (filled answers (answersBytes A))
+    report (word A) (length F) (lastRound F) (length A) (atFront facts (recordsOf F)) (atFront answers (answersBytes A))
 
 unfoldable pub decisionOn : Policy → Reading Request → List ℕ → List ℕ → Report
 decisionOn P (got q e) facts answers = reported (decide P q (capacity facts) (room answers)) facts answers

@@ -1,13 +1,14 @@
--- Form (refusal 3): of constants and verbs a test, of facts and assertions where they end.
+-- Computed: form (refusal 3), by offsets. Of constants and verbs a test, of facts and assertions where they end.
 use Prim.Native.Nat.{ℕ, zero, suc, _+_, _-_, _*_}
-use mathlib.Core.List.{List, []}
-use mathlib.Core.Bool.{Bool, true, false, _&&_}
+use mathlib.Core.List.{List}
+use mathlib.Core.Bool.{Bool, true, _&&_}
 use lib.ListN.{length}
 use lib.Dec.{eqb, ltb, leb}
-use Rattle.model.specs.Limits.{maxLabel, lowestLabelByte, highestLabelByte, maxDay, maxArity, maxNest, maxBody, maxConstraints, maxOperator, unlimited, day, quantity}
+use Rattle.model.specs.Limits.{maxLabel, lowestLabelByte, highestLabelByte, maxDay, maxArity, maxNest, maxBody, maxConstraints, maxOperator}
+use Rattle.model.specs.Limits.{unlimited, day, quantity}
 use Rattle.model.specs.Lists.{all}
 use Rattle.model.specs.Syntax.{Verb}
-use Rattle.model.specs.Bytes.{byteAt, u16At, u32At, bytesAt, choose, both}
+use Rattle.model.specs.Bytes.{byteAt, u32At, bytesAt, choose, both}
 use Rattle.model.specs.Readings.{itemEnd, hasLabel, arityOf, assertionEnd}
 
 -- ---- "label of 1 to 32 bytes in 0x21 to 0x7E"

@@ -6,7 +6,8 @@ use lib.ListN.{getD}
 use lib.Dec.{eqb, ltb}
 use Rattle.model.specs.Limits.{principal, thing, day, quantity}
 use Rattle.model.specs.Lists.{any, all, each, member, product}
-use Rattle.model.specs.Syntax.{Expr, con, var, today, Fact, flat, canSay, Constraint, Assertion, Constant, Verb, Node, Nodes, says, test, allOf, anyOf, non, exists, end, more, varsOf, varsTest}
+use Rattle.model.specs.Syntax.{Expr, con, var, today, Fact, flat, canSay, Constraint, Assertion, Constant, Verb, varsOf, varsTest}
+use Rattle.model.specs.Syntax.{Node, Nodes, says, test, allOf, anyOf, non, exists, end, more}
 
 -- where a number has no constant
 abbrev pub noConstant : Constant
@@ -101,24 +102,7 @@ comparable cs κ c = operands (c .op) (kindUnder cs κ (c .left)) (kindUnder cs 
 abbrev pub meets : List Constant → Demands → List ℕ → Bool
 meets cs D κ = all (inPlace cs κ) (D .places) && all (comparable cs κ) (D .tests)
 
--- the variables that occur
-abbrev pub occurring : Demands → List ℕ
-occurring D = each (D .places) (λ (p : ℕ × Expr). varsOf (p .1)) ++ each (D .tests) varsTest
-
--- any of the four for a variable that occurs; the others need none, and have principal
-abbrev pub kindsFor : Demands → ℕ → List ℕ
-kindsFor D v = cond (member v (occurring D)) kinds (principal ∷ [])
-
-abbrev pub choicesOf : Demands → List (List ℕ)
-choicesOf D = product (map (kindsFor D) variables)
-
--- "there is a choice of kinds that fits": 5 where there is none
-abbrev pub fitting : List Constant → Demands → Bool
-fitting cs D = any (meets cs D) (choicesOf D)
-
--- of an assertion the issuer must also be a principal constant
-abbrev pub fitsAssertion : List Constant → List Verb → Assertion → Bool
-fitsAssertion cs vs a = eqb (kindAt cs (a .issuer)) principal && fitting cs (demandsOf vs a)
+-- ==== Computed from here on: the kind of a variable (`Theorems.OneKind`), and the search for a choice that fits (`Theorems.KindsFit`).
 
 -- ---- the kind of a variable: that of its first place in a fact, and 0 where it has none. A choice that fits gives it no other (`Theorems.OneKind`).
 
@@ -130,3 +114,22 @@ isVar v today = false
 abbrev pub kindOf : List (ℕ × Expr) → ℕ → ℕ
 kindOf [] v = 0
 kindOf (p ∷ ps) v = cond (isVar v (p .1)) (p .0) (kindOf ps v)
+
+-- the variables that occur
+abbrev pub occurring : Demands → List ℕ
+occurring D = each (D .places) (λ (p : ℕ × Expr). varsOf (p .1)) ++ each (D .tests) varsTest
+
+-- any of the four for a variable that occurs; the others need none, and have principal
+abbrev pub kindsFor : Demands → ℕ → List ℕ
+kindsFor D v = cond (member v (occurring D)) kinds (principal ∷ [])
+
+abbrev pub choicesOf : Demands → List (List ℕ)
+choicesOf D = product (map (kindsFor D) variables)
+
+-- there is a choice of kinds that fits: 5 where there is none
+abbrev pub fitting : List Constant → Demands → Bool
+fitting cs D = any (meets cs D) (choicesOf D)
+
+-- of an assertion the issuer must also be a principal constant
+abbrev pub fitsAssertion : List Constant → List Verb → Assertion → Bool
+fitsAssertion cs vs a = eqb (kindAt cs (a .issuer)) principal && fitting cs (demandsOf vs a)

@@ -6,12 +6,14 @@ pub mod Lists
 pub mod Syntax
 pub mod Kinds
 pub mod Values
+pub mod Binding
 -- What is true: rules, reach, requests, safety, and the outcome that is meant.
 pub mod Closure
 pub mod Rules
 pub mod Reach
 pub mod Requests
 pub mod Safety
+pub mod Safe
 pub mod Records
 pub mod Meant
 -- What is computed, and proved to be that.
@@ -22,11 +24,15 @@ pub mod Judging
 pub mod Deciding
 -- Bytes.
 pub mod Bytes
+pub mod Reader
+pub mod Layout
+pub mod Labels
+pub mod Decision
+-- Computed, by offsets, and proved to be that.
 pub mod Readings
 pub mod Forms
 pub mod Policies
 pub mod Nodes
-pub mod Decision
 -- What is proved.
 pub mod Theorems
 pub mod Cases

@@ -1,5 +1,45 @@
--- Document 01's widths, limits and fixed numbers, each by its name.
+-- Document 01's widths, limits and fixed numbers, each by its name. Lengths, ranges and offsets of the layout stand in `Layout`, beside the sentences that
+-- they are.
 use Prim.Native.Nat.{ℕ}
+
+-- ---- kinds of constants: "Kind 1 principal and 2 thing .. Kind 3 day .. Kind 4 quantity"
+abbrev pub principal : ℕ
+principal = 1
+
+abbrev pub thing : ℕ
+thing = 2
+
+abbrev pub day : ℕ
+day = 3
+
+abbrev pub quantity : ℕ
+quantity = 4
+
+-- ---- "a depth byte (0, or 1 for unlimited)"
+abbrev pub unlimited : ℕ
+unlimited = 1
+
+-- ---- verb 0, "can act as", is built in
+abbrev pub canActAs : ℕ
+canActAs = 0
+
+-- ---- "Fact record, 16 bytes: .. three parameters"; "at most 65,535"; "An answer is 8 bytes .. 255 where not free"
+abbrev pub recordBytes : ℕ
+recordBytes = 16
+
+abbrev pub maxArity : ℕ
+maxArity = 3
+
+abbrev pub maxRecords : ℕ
+maxRecords = 65535
+
+abbrev pub answerBytes : ℕ
+answerBytes = 8
+
+abbrev pub unbound : ℕ
+unbound = 255
+
+-- ==== Named for the code from here on: the numbers of `Layout`, with which the readers that use these names are proved to agree.
 
 -- ---- "Constants (1 to 255 ..)", "Verbs (0 to 64 ..)", "Assertions (0 to 256)"
 abbrev pub maxConstants : ℕ
@@ -25,10 +65,7 @@ highestLabelByte = 0x7E
 abbrev pub maxDay : ℕ
 maxDay = 36524
 
--- ---- "arity byte 0 to 3", "a nest byte 0 to 3", "a count byte 0 to 4" of body facts and of constraints
-abbrev pub maxArity : ℕ
-maxArity = 3
-
+-- ---- "a nest byte 0 to 3", "a count byte 0 to 4" of body facts and of constraints; operators 1 to 5
 abbrev pub maxNest : ℕ
 maxNest = 3
 
@@ -51,27 +88,6 @@ maxDepth = 8
 abbrev pub maxVariable : ℕ
 maxVariable = 7
 
--- ---- kinds of constants, in their numbers
-abbrev pub principal : ℕ
-principal = 1
-
-abbrev pub thing : ℕ
-thing = 2
-
-abbrev pub day : ℕ
-day = 3
-
-abbrev pub quantity : ℕ
-quantity = 4
-
--- ---- "a depth byte (0, or 1 for unlimited)"
-abbrev pub unlimited : ℕ
-unlimited = 1
-
--- ---- verb 0, "can act as", is built in
-abbrev pub canActAs : ℕ
-canActAs = 0
-
 -- ---- "0x8000 to 0x8007 a variable, 0x4000 today"
 abbrev pub firstVariable : ℕ
 firstVariable = 0x8000
@@ -92,16 +108,3 @@ headerBytes = 5
 -- ---- a request: "today (4 bytes ..), one node"
 abbrev pub firstNodeAt : ℕ
 firstNodeAt = 9
-
--- ---- "Fact record, 16 bytes"; "at most 65,535"; "An answer is 8 bytes .. 255 where not free"
-abbrev pub recordBytes : ℕ
-recordBytes = 16
-
-abbrev pub maxRecords : ℕ
-maxRecords = 65535
-
-abbrev pub answerBytes : ℕ
-answerBytes = 8
-
-abbrev pub unbound : ℕ
-unbound = 255

@@ -64,16 +64,18 @@ before [] (y ∷ ys) = true
 before (x ∷ xs) [] = false
 before (x ∷ xs) (y ∷ ys) = ltb x y || (eqb x y && before xs ys)
 
--- all lists with one element from each, in the order of the dictionary where each list ascends
-abbrev pub product : List (List ℕ) → List (List ℕ)
-product [] = [] ∷ []
-product (xs ∷ xss) = let rest = product xss in each xs (λ (x : ℕ). map (λ (l : List ℕ). x ∷ l) rest)
-
 -- at least `n` long, with 0 at the end
 abbrev pub pad : ℕ → List ℕ → List ℕ
 pad zero l = l
 pad (suc n) [] = 0 ∷ pad n []
 pad (suc n) (x ∷ l) = x ∷ pad n l
+
+-- ==== Computed from here on: the theorems say what comes of them.
+
+-- all lists with one element from each, in the order of the dictionary where each list ascends
+abbrev pub product : List (List ℕ) → List (List ℕ)
+product [] = [] ∷ []
+product (xs ∷ xss) = let rest = product xss in each xs (λ (x : ℕ). map (λ (l : List ℕ). x ∷ l) rest)
 
 module _ {E : Type 0} (key : E → List ℕ) where
   abbrev pub insert : E → List E → List E

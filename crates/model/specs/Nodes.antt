@@ -1,4 +1,4 @@
--- The request reader: accepted with what it asks, or refusal 1, 2, 3, 5 or 7 with its place (document 01, "Request bytes and decision", "Refusals from the input").
+-- Computed: the request reader by offsets, node by node, as the code goes (`proofs/RequestReader`: it is `Layout.readRequest` for every byte list).
 use Prim.Native.Nat.{ℕ, zero, suc, _+_}
 use mathlib.Core.List.{List}
 use mathlib.Core.Bool.{Bool}
@@ -12,6 +12,7 @@ use Rattle.model.specs.Bytes.{byteAt, u32At, choose, both, Reading, got,
 use Rattle.model.specs.Readings.{exprAt, factAt, constraintAt, Sort, saysSort, testSort, allSort, anySort, notSort, existsSort, noSort, sortOf, nodeAt}
 use Rattle.model.specs.Forms.{Form, ends, broken, noVerb, factForm, operatorForm}
 use Rattle.model.specs.Policies.{headed, ended}
+unfoldable pub use Rattle.model.specs.Layout.{readRequest}
 
 -- "count byte 1 to 8"
 unfoldable pub partsForm : List ℕ → ℕ → Bool
@@ -70,5 +71,5 @@ module _ (cs : List Constant) (vs : List Verb) (s : List ℕ) where
       (choose (ltb maxDay (u32At s headerBytes)) (refused 3 headerBytes)
       (andThen (checkNode maxDepth noDemands firstNodeAt) (λ D p. andThen (ended s requestOf p) safely)))
 
-  unfoldable pub readRequest : Reading Request
-  readRequest = headed s requestFrom
+  unfoldable pub computedRequest : Reading Request
+  computedRequest = headed s requestFrom

@@ -1,4 +1,4 @@
--- The policy reader: accepted with what it says and where it stands, or refusal 1 to 6 with its place (document 01, "Policy bytes", "Refusals from the input").
+-- Computed: the policy reader by offsets, item by item, as the code goes (`proofs/PolicyReader`: it is `Layout.readPolicy` for every byte list).
 use Prim.Native.Nat.{ℕ, zero, suc, _+_, _-_}
 use mathlib.Core.List.{List, [], _∷_, _++_, map}
 use mathlib.Core.Bool.{Bool, _&&_}
@@ -10,6 +10,9 @@ use Rattle.model.specs.Syntax.{Assertion, Constant, Verb, Policy}
 use Rattle.model.specs.Kinds.{fitsAssertion}
 use Rattle.model.specs.Values.{alike, sameValue}
 use Rattle.model.specs.Safety.{safeAssertion}
+pub use Rattle.model.specs.Reader.{Item, contents}
+pub use Rattle.model.specs.Layout.{Accepted, policyOf}
+unfoldable pub use Rattle.model.specs.Layout.{readPolicy}
 use Rattle.model.specs.Bytes.{byteAt, u16At, u32At, choose, both, Reading, got, refused, andThen}
 use Rattle.model.specs.Readings.{itemEnd, constantAt, verbAt, assertionAt}
 use Rattle.model.specs.Forms.{Form, ends, broken, noVerb, constantForm, verbForm, assertionForm}
@@ -29,14 +32,6 @@ headed s r = choose (versionThere s) (choose (lengthRight s) r (refused 2 length
 -- "bytes left over": the place is the first of them
 unfoldable pub ended : {A : Type 0} → List ℕ → A → ℕ → Reading A
 ended s x p = choose (eqb p (length s)) (got x p) (refused 3 p)
-
--- an item and its first byte
-pub record Item (A : Type 0) : Type 0 where
-  pub at : ℕ
-  pub of : A
-
-abbrev pub contents : {A : Type 0} → List (Item A) → List A
-contents is = map (λ i. i .of) is
 
 abbrev pub offsets : {A : Type 0} → List (Item A) → List ℕ
 offsets is = map (λ i. i .at) is
@@ -90,14 +85,6 @@ assertionItem cs vs s before at = assertionBy (assertionForm vs s at) cs vs (ass
 
 -- ---- the whole
 
-pub record Accepted : Type 0 where
-  pub constants : List (Item Constant)
-  pub verbs : List (Item Verb)
-  pub assertions : List (Item Assertion)
-
-abbrev pub policyOf : Accepted → Policy
-policyOf A = record { version = version; constants = contents (A .constants); verbs = contents (A .verbs); assertions = contents (A .assertions) }
-
 -- "Then three lists": constants, 1 to 255; verbs, 0 to 64; assertions, 0 to 256
 unfoldable pub assertionsFrom : List ℕ → List (Item Constant) → List (Item Verb) → ℕ → Reading Accepted
 assertionsFrom s cs vs p =
@@ -110,5 +97,5 @@ verbsFrom s cs p = andThen (listAt s 0 maxVerbs (verbItem s) p) (λ vs e. assert
 unfoldable pub constantsFrom : List ℕ → Reading Accepted
 constantsFrom s = andThen (listAt s 1 maxConstants (constantItem s) headerBytes) (λ cs e. verbsFrom s cs e)
 
-unfoldable pub readPolicy : List ℕ → Reading Accepted
-readPolicy s = headed s (constantsFrom s)
+unfoldable pub computedPolicy : List ℕ → Reading Accepted
+computedPolicy s = headed s (constantsFrom s)

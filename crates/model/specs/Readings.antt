@@ -1,4 +1,5 @@
--- Total readings: the constant, verb, expression, fact, constraint, assertion or node that stands at an offset, and where it ends.
+-- Computed: total readings by offsets, proved to be those of `Layout` where these accept. The constant, verb, expression, fact, constraint, assertion or node
+-- that stands at an offset, and where it ends.
 -- Of bytes that have no such form they say something too; the forms (`Forms`, `Nodes`) say when that counts.
 use Prim.Native.Nat.{ℕ, zero, suc, _+_, _-_, _*_}
 use mathlib.Core.List.{List, [], _∷_}
@@ -6,7 +7,8 @@ use mathlib.Core.Bool.{Bool, _||_}
 use lib.ListN.{length}
 use lib.Dec.{eqb, ltb}
 use Rattle.model.specs.Limits.{principal, thing, firstVariable, todayCode}
-use Rattle.model.specs.Syntax.{Expr, con, var, today, Fact, flat, canSay, Constraint, Assertion, Constant, Verb, Node, Nodes, says, test, allOf, anyOf, non, exists, end, more}
+use Rattle.model.specs.Syntax.{Expr, con, var, today, Fact, flat, canSay, Constraint, Assertion, Constant, Verb, Node, Nodes, says, test, allOf}
+use Rattle.model.specs.Syntax.{anyOf, non, exists, end, more}
 use Rattle.model.specs.Kinds.{paramKinds}
 use Rattle.model.specs.Bytes.{byteAt, u16At, u32At, bytesAt, choose}
 
@@ -34,7 +36,8 @@ verbAt s at = record {
   label = bytesAt (byteAt s at - 1 - byteAt s (at + 1)) s (at + 2 + byteAt s (at + 1));
 }
 
--- ---- expressions: "2 bytes: 0 to 254 a constant, 0x8000 to 0x8007 a variable, 0x4000 today". A number without a meaning is read as a constant or a variable that is not there.
+-- ---- expressions: "2 bytes: 0 to 254 a constant, 0x8000 to 0x8007 a variable, 0x4000 today". A number without a meaning is read as a constant or a variable
+-- that is not there.
 
 unfoldable pub exprOf : ℕ → Expr
 exprOf x = choose (eqb x todayCode) today (choose (ltb x firstVariable) (con x) (var (x - firstVariable)))

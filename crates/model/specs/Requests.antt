@@ -60,6 +60,8 @@ module _ (W : World) (kind : ℕ → ℕ) (Derivable : Said → Type 0) where
     HoldAny end θ = ⊥
     HoldAny (more n ns) θ = Holds n θ ⊎ HoldAny ns θ
 
+-- ==== Computed from here on: the kind of a variable (`Theorems.OneKind`), and all bindings as a list (`Theorems.AnswerBindings`).
+
 -- ---- "Bindings range over the policy's constants of the variable's kind. .. 255 where not free"
 
 abbrev pub kindsIn : World → Node → ℕ → ℕ

@@ -1,10 +1,11 @@
--- Safe assertions and safe requests.
+-- Safe assertions (document 01, "Safe assertions"), and the test for safe requests, whose rules are in `Safe`.
 use mathlib.Core.List.{List, [], _∷_, _++_}
 use mathlib.Core.Bool.{Bool, true, false, _&&_, not}
 use mathlib.Core.Option.{Option, none, some}
 use Prim.Native.Nat.{ℕ}
 use Rattle.model.specs.Lists.{keep, all, each, member, among, without, apart}
-use Rattle.model.specs.Syntax.{Expr, Fact, flat, canSay, Assertion, Node, Nodes, says, test, allOf, anyOf, non, exists, end, more, varsOf, varsIn, varsTest}
+use Rattle.model.specs.Syntax.{Expr, Fact, flat, canSay, Assertion, varsOf, varsIn, varsTest}
+use Rattle.model.specs.Syntax.{Node, Nodes, says, test, allOf, anyOf, non, exists, end, more}
 use Rattle.model.specs.Kinds.{variables}
 use Rattle.model.specs.Requests.{free}
 
@@ -24,6 +25,23 @@ abbrev pub safeAssertion : Assertion → Bool
 safeAssertion a =
     let inBody = each (a .body) varsIn in
     all isFlat (a .body) && safeHead (a .head) inBody && among (each (a .tests) varsTest) (varsIn (a .head) ++ inBody)
+
+-- ---- the variables that a request binds, once for each exists (`Safe`)
+
+abbrev mutual
+  pub binders : Node → List ℕ
+  binders (says e f) = []
+  binders (test c) = []
+  binders (allOf ns) = bindersAll ns
+  binders (anyOf ns) = bindersAll ns
+  binders (non n) = binders n
+  binders (exists v n) = v ∷ binders n
+
+  pub bindersAll : Nodes → List ℕ
+  bindersAll end = []
+  bindersAll (more n ns) = binders n ++ bindersAll ns
+
+-- ==== Computed from here on: whether a request is safe, and `Theorems.SafelyAsked` says that the rules of `Safe` find the same.
 
 -- ---- requests: "from left to right with a set of known variables, empty at first"
 
@@ -61,19 +79,6 @@ abbrev mutual
   pub knownAny : Nodes → List ℕ → Option (List ℕ)
   knownAny end vs = some variables
   knownAny (more n ns) vs = onward (known n vs) (λ ws. onward (knownAny ns vs) (λ us. some (keep (λ w. member w us) ws)))
-
-abbrev mutual
-  pub binders : Node → List ℕ
-  binders (says e f) = []
-  binders (test c) = []
-  binders (allOf ns) = bindersAll ns
-  binders (anyOf ns) = bindersAll ns
-  binders (non n) = binders n
-  binders (exists v n) = v ∷ binders n
-
-  pub bindersAll : Nodes → List ℕ
-  bindersAll end = []
-  bindersAll (more n ns) = binders n ++ bindersAll ns
 
 abbrev pub isSafe : Option (List ℕ) → List ℕ → Bool
 isSafe none vs = false

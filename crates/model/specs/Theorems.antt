@@ -1,48 +1,34 @@
--- What is proved of the definitions: each statement as a type. `proofs/Theorems.antt` has a proof of each, under the same name in small letters.
+-- What is proved of the definitions: each statement as a type. `proofs/Theorems.antt` has a proof of each, under the same name with a small first letter.
 use mathlib.Core.Path.{_≡_}
 use mathlib.Core.Logic.{_↔_}
-use mathlib.Core.List.{List, [], _∷_, List·Memᴰ}
+use mathlib.Core.List.{List, [], _∷_, map, List·Memᴰ}
 use Prim.Native.Nat.{ℕ, _≤_, _<_, _*_}
 use lib.ListN.{length, take, drop, getD}
 use lib.Dec.{T}
-use Rattle.model.specs.Limits.{answerBytes}
-use Rattle.model.specs.Syntax.{Assertion, Constant, Verb, Policy, Request, Node, Nodes, says, test, allOf, anyOf, non, exists, end, more, World, worldOf, Said, said}
-use Rattle.model.specs.Kinds.{Demands, meets, fitting, kinds, variables, kindOf}
+use Rattle.model.specs.Limits.{principal, unbound, answerBytes}
+use Rattle.model.specs.Lists.{member}
+use Rattle.model.specs.Syntax.{Fact, flat, canSay, Assertion, Constant, Verb, Policy, Request, World, worldOf, Said, said}
+use Rattle.model.specs.Syntax.{Node, Nodes, says, test, allOf, anyOf, non, exists, end, more}
+use Rattle.model.specs.Kinds.{Demands, noDemands, demandsOf, demandsIn, paramKinds, kindAt, meets, fitting, kinds, kindOf}
+use Rattle.model.specs.Values.{bindingsOf}
+use Rattle.model.specs.Binding.{Fits, Binds, inPlaces}
 use Rattle.model.specs.Closure.{Derives, Within, First}
-use Rattle.model.specs.Rules.{Rule}
+use Rattle.model.specs.Rules.{Rule, depths}
 use Rattle.model.specs.Reach.{Reach}
-use Rattle.model.specs.Requests.{issuers}
+use Rattle.model.specs.Requests.{issuers, free, kindsIn, bindingsIn}
 use Rattle.model.specs.Records.{Entry, keyOf, recordOf}
 use Rattle.model.specs.Meant.{Outcome, decided, MoreThan, AtMost, Enumerates, Derivable, FirstIn, Satisfies, itself, Meant}
 use Rattle.model.specs.Rounds.{round, table}
 use Rattle.model.specs.Steps.{eqSaid, step}
 use Rattle.model.specs.Reached.{reach, counting}
 use Rattle.model.specs.Deciding.{countingIn}
-use Rattle.model.specs.Bytes.{Reading, got}
-use Rattle.model.specs.Policies.{Accepted, policyOf, readPolicy}
-use Rattle.model.specs.Nodes.{readRequest}
+use Rattle.model.specs.Bytes.{got}
+use Rattle.model.specs.Layout.{Accepted, policyOf, node, readPolicy, readRequest}
+use Rattle.model.specs.Safety.{safeRequest}
+use Rattle.model.specs.Safe.{SafeRequest}
 use Rattle.model.specs.Decision.{Verdict, allow, deny, refusal, Report, capacity, room, reported, decision}
 
--- ---- 1. rules and rounds
-
--- what the rules derive is what some round holds
-abbrev pub RulesAreRounds : Type 0
-RulesAreRounds = (W : World) (𝒜 : List Assertion) (x : Said) → Derives (Rule W 𝒜) x ↔ ((n : ℕ) × Within (Rule W 𝒜) n x)
-
--- a computed round holds exactly what is derivable within it
-abbrev pub ComputedRounds : Type 0
-ComputedRounds = (W : World) (𝒜 : List Assertion) (n : ℕ) (x : Said) → List·Memᴰ x (round eqSaid (step W 𝒜) n) ↔ Within (Rule W 𝒜) n x
-
--- in a table within its capacity (round, statement) stands exactly if that is the statement's first round
-abbrev pub TableEntries : Type 0
-TableEntries = (W : World) (𝒜 : List Assertion) (c : ℕ) → length (table eqSaid (step W 𝒜) c) ≤ c
-    → (r : ℕ) (x : Said) → List·Memᴰ (r, x) (table eqSaid (step W 𝒜) c) ↔ First (Rule W 𝒜) r x
-
--- "Rounds reported: the last round that adds a fact, so never more than the facts", whatever the bytes
-abbrev pub RoundsAtMostFacts : Type 0
-RoundsAtMostFacts = (policy request facts answers : List ℕ) → decision policy request facts answers .rounds ≤ decision policy request facts answers .facts
-
--- ---- 2. the outcome, over bytes. "Accepted: no refusal from the input stands against it."
+-- ---- 1. accepted inputs, and what they derive and answer. "Accepted: no refusal from the input stands against it."
 
 abbrev pub ReadAs : List ℕ → Policy → Type 0
 ReadAs policy P = (A : Accepted) × (e : ℕ) × (readPolicy policy ≡ got A e) × (policyOf A ≡ P)
@@ -65,56 +51,15 @@ EntryIn P q = FirstIn (worldOf P q) (countingIn P q) (q .node)
 abbrev pub AnswerIn : Policy → Request → List ℕ → Type 0
 AnswerIn P q = Satisfies (worldOf P q) (countingIn P q) (q .node)
 
-abbrev pub MeantBy : Policy → Request → ℕ → ℕ → Outcome → Type 0
-MeantBy P q = Meant (worldOf P q) (countingIn P q) (q .node)
-
--- the decision reports an outcome that is meant, and no other outcome is
-abbrev pub Meaning : Type 0
-Meaning = (policy request facts answers : List ℕ) (P : Policy) (q : Request) → Inputs policy request P q
-    → (o : Outcome) × (decision policy request facts answers ≡ reported o facts answers) × MeantBy P q (capacity facts) (room answers) o
-    × ((o′ : Outcome) → MeantBy P q (capacity facts) (room answers) o′ → o′ ≡ o)
-
--- 8 exactly if more statements are derivable than the capacity
-abbrev pub Eight : Type 0
-Eight = (policy request facts answers : List ℕ) (P : Policy) (q : Request) → Inputs policy request P q
-    → (decision policy request facts answers .verdict ≡ refusal 8 0 0) ↔ MoreThan (capacity facts) (DerivableIn P q)
-
--- 9 exactly if not 8 and more bindings satisfy than there is room for
-abbrev pub Nine : Type 0
-Nine = (policy request facts answers : List ℕ) (P : Policy) (q : Request) → Inputs policy request P q
-    → (decision policy request facts answers .verdict ≡ refusal 9 0 0)
-    ↔ (AtMost (capacity facts) (DerivableIn P q) × MoreThan (room answers) (AnswerIn P q))
-
--- otherwise the records are exactly the derivable statements with their first rounds, ascending, once each, and the answers exactly the satisfying bindings, ascending, once each
-abbrev pub Decides : Type 0
-Decides = (policy request facts answers : List ℕ) (P : Policy) (q : Request) → Inputs policy request P q
-    → AtMost (capacity facts) (DerivableIn P q) → AtMost (room answers) (AnswerIn P q)
-    → (F : List Entry) × (A : List (List ℕ)) × Enumerates keyOf (EntryIn P q) F × Enumerates itself (AnswerIn P q) A
-    × (decision policy request facts answers ≡ reported (decided F A) facts answers)
-
--- then allow exactly if some binding satisfies, deny exactly if none does
-abbrev pub Allows : Type 0
-Allows = (policy request facts answers : List ℕ) (P : Policy) (q : Request) → Inputs policy request P q
-    → AtMost (capacity facts) (DerivableIn P q) → AtMost (room answers) (AnswerIn P q)
-    → ((decision policy request facts answers .verdict ≡ allow) ↔ ((θ : List ℕ) × AnswerIn P q θ))
-    × ((decision policy request facts answers .verdict ≡ deny) ↔ (¬ ((θ : List ℕ) × AnswerIn P q θ)))
-
 -- a record's bytes tell which statement and round it is of
 abbrev pub RecordsTell : Type 0
 RecordsTell = (policy request : List ℕ) (P : Policy) (q : Request) → Inputs policy request P q
     → (e e′ : Entry) → EntryIn P q e → EntryIn P q e′ → recordOf e ≡ recordOf e′ → e ≡ e′
 
--- ---- 3. the reach
+-- ---- 2. added assertions (demand 3; obligation e)
 
--- the computed reach is the least set, and the assertions that count are those issued in it
-abbrev pub ComputedReach : Type 0
-ComputedReach = (W : World) (𝒜 : List Assertion) (asked : List ℕ)
-    → ((p : ℕ) → List·Memᴰ p (reach W 𝒜 asked) ↔ Reach W 𝒜 asked p)
-    × ((a : Assertion) → List·Memᴰ a (counting W 𝒜 asked) ↔ (List·Memᴰ a 𝒜 × Reach W 𝒜 asked (a .issuer)))
-
--- ---- 4. added assertions (demand 3; obligation e)
-
--- `Adds Q 𝒜 ℬ`: "With the added assertions taken out, wherever they stand, the longer policy's list is the shorter's, unchanged and in its order"; each added one has Q
+-- `Adds Q 𝒜 ℬ`: "With the added assertions taken out, wherever they stand, the longer policy's list is the shorter's, unchanged and in its order"; each added
+-- one has Q
 pub data Adds (Q : Assertion → Type 0) : List Assertion → List Assertion → Type 0 where
   done : Adds Q [] []
   keeps : (a : Assertion) {𝒜 ℬ : List Assertion} → Adds Q 𝒜 ℬ → Adds Q (a ∷ 𝒜) (a ∷ ℬ)
@@ -132,12 +77,6 @@ InReach P q = Reach (worldOf P q) (P .assertions) (issuers (q .node) (worldOf P 
 
 abbrev pub IssuedOutside : Policy → Request → Assertion → Type 0
 IssuedOutside P q a = ¬ InReach P q (a .issuer)
-
--- first half: "If every added issuer is outside the reach in the shorter policy, result and both buffers are the same, byte for byte."
-abbrev pub Outsiders : Type 0
-Outsiders = (policy longer request facts answers : List ℕ) (P L : Policy) (q : Request) → Inputs policy request P q → ReadAs longer L
-    → Longer (IssuedOutside P q) P L
-    → decision longer request facts answers ≡ decision policy request facts answers
 
 abbrev pub who : Said → ℕ
 who (said a d f) = a
@@ -178,21 +117,140 @@ ListedIn r θ = (i : ℕ) × (i < r .answers) × (answerIn (r .answerBuffer) i �
 abbrev pub Anyone : Assertion → Type 0
 Anyone a = Unit {0}
 
+-- ---- 3. kinds and bindings
+
+-- "no choice of kinds for the variables fits": the computed test says whether there is one, whatever the kinds of variables that do not occur
+abbrev pub KindsFit : Type 0
+KindsFit = (cs : List Constant) (D : Demands) → T (fitting cs D) ↔ ((κ : List ℕ) × Fits cs D κ)
+
+-- a variable's kind is settled: a choice that fits gives it the kind of its first place in a fact
+abbrev pub OneKind : Type 0
+OneKind = (cs : List Constant) (D : Demands) (κ : List ℕ) → T (meets cs D κ)
+    → (v : ℕ) → (¬ (kindOf (D .places) v ≡ 0)) → getD κ v 0 ≡ kindOf (D .places) v
+
+-- "variables range over the policy's constants of their kind": the bindings of an assertion are those under a choice of kinds that fits it
+abbrev pub InstanceBindings : Type 0
+InstanceBindings = (policy : List ℕ) (P : Policy) (q : Request) → ReadAs policy P → (a : Assertion) → List·Memᴰ a (P .assertions)
+    → (θ : List ℕ) → List·Memᴰ θ (bindingsOf (worldOf P q) a)
+    ↔ ((κ : List ℕ) × Fits (P .constants) (demandsOf (P .verbs) a) κ × Binds (P .constants) κ (inPlaces (demandsOf (P .verbs) a)) θ)
+
+-- "Bindings range over the policy's constants of the variable's kind. .. 255 where not free": those of a request likewise
+abbrev pub AnswerBindings : Type 0
+AnswerBindings = (policy request : List ℕ) (P : Policy) (q : Request) → Inputs policy request P q
+    → (θ : List ℕ) → List·Memᴰ θ (bindingsIn (worldOf P q) (q .node))
+    ↔ ((κ : List ℕ) × Fits (P .constants) (demandsIn (q .node) (P .verbs)) κ × Binds (P .constants) κ (free (q .node)) θ)
+
+-- the reader asks item by item; what an accepted request was asked is what its whole node asks, and a choice of kinds fits it
+abbrev pub WholeNodeFits : Type 0
+WholeNodeFits = (policy request : List ℕ) (P : Policy) (q : Request) → Inputs policy request P q
+    → (κ : List ℕ) × Fits (P .constants) (demandsIn (q .node) (P .verbs)) κ
+
+-- 255 is no constant's number
+abbrev pub BelowUnbound : Type 0
+BelowUnbound = (policy : List ℕ) (P : Policy) → ReadAs policy P → (c : ℕ) → (¬ (kindAt (P .constants) c ≡ 0)) → c < unbound
+
+-- "An answer is .. a constant per variable": of a free variable a constant of its kind, so never 255
+abbrev pub FreeAnswers : Type 0
+FreeAnswers = (policy request : List ℕ) (P : Policy) (q : Request) → Inputs policy request P q
+    → (θ : List ℕ) → AnswerIn P q θ → (v : ℕ) → T (member v (free (q .node)))
+    → List·Memᴰ (kindsIn (worldOf P q) (q .node) v) kinds × (kindAt (P .constants) (getD θ v unbound) ≡ kindsIn (worldOf P q) (q .node) v)
+    × (getD θ v unbound < unbound)
+
+-- ---- 4. "Facts are ground": issuer, speakers and subject are principals of the policy, parameters constants of their verb's kinds; so 255 is none of them
+
+abbrev pub GroundFact : List Constant → List Verb → Fact ℕ → Type 0
+GroundFact cs vs (flat s v ps) = (kindAt cs s ≡ principal) × (map (kindAt cs) ps ≡ paramKinds vs v)
+GroundFact cs vs (canSay s d f) = (kindAt cs s ≡ principal) × GroundFact cs vs f
+
+-- "and each fact is said at depth 0 or unlimited"
+abbrev pub GroundSaid : World → Said → Type 0
+GroundSaid W (said a d f) = (kindAt (W .constants) a ≡ principal) × List·Memᴰ d depths × GroundFact (W .constants) (W .verbs) f
+
+abbrev pub Ground : Type 0
+Ground = (policy request : List ℕ) (P : Policy) (q : Request) → Inputs policy request P q → (x : Said) → DerivableIn P q x → GroundSaid (worldOf P q) x
+
+-- ---- 5. safety
+
+-- "7 unsafe request": of a node that is read, the computed test says whether the rules of safety find it safe
+abbrev pub SafelyAsked : Type 0
+SafelyAsked = (policy request : List ℕ) (P : Policy) → ReadAs policy P
+    → (n : Node) (e : ℕ) → node request (P .constants) (P .verbs) 8 noDemands 0 (length request) 9 ≡ got n e → T (safeRequest n) ↔ SafeRequest n
+
+-- ==== For proofs from here on: what the demands say again, of calls of the engine (crate `demands`).
+
+-- ---- 6. rules and rounds
+
+-- what the rules derive is what some round holds
+abbrev pub RulesAreRounds : Type 0
+RulesAreRounds = (W : World) (𝒜 : List Assertion) (x : Said) → Derives (Rule W 𝒜) x ↔ ((n : ℕ) × Within (Rule W 𝒜) n x)
+
+-- a computed round holds exactly what is derivable within it
+abbrev pub ComputedRounds : Type 0
+ComputedRounds = (W : World) (𝒜 : List Assertion) (n : ℕ) (x : Said) → List·Memᴰ x (round eqSaid (step W 𝒜) n) ↔ Within (Rule W 𝒜) n x
+
+-- in a table within its capacity (round, statement) stands exactly if that is the statement's first round
+abbrev pub TableEntries : Type 0
+TableEntries = (W : World) (𝒜 : List Assertion) (c : ℕ) → length (table eqSaid (step W 𝒜) c) ≤ c
+    → (r : ℕ) (x : Said) → List·Memᴰ (r, x) (table eqSaid (step W 𝒜) c) ↔ First (Rule W 𝒜) r x
+
+-- "Rounds reported: the last round that adds a fact, so never more than the facts", whatever the bytes
+abbrev pub RoundsAtMostFacts : Type 0
+RoundsAtMostFacts = (policy request facts answers : List ℕ) → decision policy request facts answers .rounds ≤ decision policy request facts answers .facts
+
+-- ---- 7. the outcome
+
+abbrev pub MeantBy : Policy → Request → ℕ → ℕ → Outcome → Type 0
+MeantBy P q = Meant (worldOf P q) (countingIn P q) (q .node)
+
+-- the decision reports an outcome that is meant, and no other outcome is
+abbrev pub Meaning : Type 0
+Meaning = (policy request facts answers : List ℕ) (P : Policy) (q : Request) → Inputs policy request P q
+    → (o : Outcome) × (decision policy request facts answers ≡ reported o facts answers) × MeantBy P q (capacity facts) (room answers) o
+    × ((o′ : Outcome) → MeantBy P q (capacity facts) (room answers) o′ → o′ ≡ o)
+
+-- 8 exactly if more statements are derivable than the capacity
+abbrev pub Eight : Type 0
+Eight = (policy request facts answers : List ℕ) (P : Policy) (q : Request) → Inputs policy request P q
+    → (decision policy request facts answers .verdict ≡ refusal 8 0 0) ↔ MoreThan (capacity facts) (DerivableIn P q)
+
+-- 9 exactly if not 8 and more bindings satisfy than there is room for
+abbrev pub Nine : Type 0
+Nine = (policy request facts answers : List ℕ) (P : Policy) (q : Request) → Inputs policy request P q
+    → (decision policy request facts answers .verdict ≡ refusal 9 0 0)
+    ↔ (AtMost (capacity facts) (DerivableIn P q) × MoreThan (room answers) (AnswerIn P q))
+
+-- otherwise the records are exactly the derivable statements with their first rounds, ascending, once each, and the answers exactly the satisfying bindings,
+-- ascending, once each
+abbrev pub Decides : Type 0
+Decides = (policy request facts answers : List ℕ) (P : Policy) (q : Request) → Inputs policy request P q
+    → AtMost (capacity facts) (DerivableIn P q) → AtMost (room answers) (AnswerIn P q)
+    → (F : List Entry) × (A : List (List ℕ)) × Enumerates keyOf (EntryIn P q) F × Enumerates itself (AnswerIn P q) A
+    × (decision policy request facts answers ≡ reported (decided F A) facts answers)
+
+-- then allow exactly if some binding satisfies, deny exactly if none does
+abbrev pub Allows : Type 0
+Allows = (policy request facts answers : List ℕ) (P : Policy) (q : Request) → Inputs policy request P q
+    → AtMost (capacity facts) (DerivableIn P q) → AtMost (room answers) (AnswerIn P q)
+    → ((decision policy request facts answers .verdict ≡ allow) ↔ ((θ : List ℕ) × AnswerIn P q θ))
+    × ((decision policy request facts answers .verdict ≡ deny) ↔ (¬ ((θ : List ℕ) × AnswerIn P q θ)))
+
+-- ---- 8. the reach, and added assertions
+
+-- the computed reach is the least set, and the assertions that count are those issued in it
+abbrev pub ComputedReach : Type 0
+ComputedReach = (W : World) (𝒜 : List Assertion) (asked : List ℕ)
+    → ((p : ℕ) → List·Memᴰ p (reach W 𝒜 asked) ↔ Reach W 𝒜 asked p)
+    × ((a : Assertion) → List·Memᴰ a (counting W 𝒜 asked) ↔ (List·Memᴰ a 𝒜 × Reach W 𝒜 asked (a .issuer)))
+
+-- first half: "If every added issuer is outside the reach in the shorter policy, result and both buffers are the same, byte for byte."
+abbrev pub Outsiders : Type 0
+Outsiders = (policy longer request facts answers : List ℕ) (P L : Policy) (q : Request) → Inputs policy request P q → ReadAs longer L
+    → Longer (IssuedOutside P q) P L
+    → decision longer request facts answers ≡ decision policy request facts answers
+
 -- second half: "Whoever issues them, if the request has no 'not' and both get a decision, every answer of the shorter is an answer of the longer."
 abbrev pub Growing : Type 0
 Growing = (policy longer request facts answers : List ℕ) (P L : Policy) (q : Request) → Inputs policy request P q → ReadAs longer L
     → Longer Anyone P L → Positive (q .node)
     → IsDecision (decision policy request facts answers .verdict) → IsDecision (decision longer request facts answers .verdict)
     → (θ : List ℕ) → ListedIn (decision policy request facts answers) θ → ListedIn (decision longer request facts answers) θ
-
--- ---- 5. kinds
-
--- "no choice of kinds for the variables fits": the computed test says whether there is one, whatever the kinds of variables that do not occur
-abbrev pub Fitting : Type 0
-Fitting = (cs : List Constant) (D : Demands)
-    → T (fitting cs D) ↔ ((κ : List ℕ) × (length κ ≡ length variables) × ((v : ℕ) → v < length variables → List·Memᴰ (getD κ v 0) kinds) × T (meets cs D κ))
-
--- a variable's kind is settled: a choice that fits gives it the kind of its first place in a fact
-abbrev pub OneKind : Type 0
-OneKind = (cs : List Constant) (D : Demands) (κ : List ℕ) → T (meets cs D κ)
-    → (v : ℕ) → (¬ (kindOf (D .places) v ≡ 0)) → getD κ v 0 ≡ kindOf (D .places) v

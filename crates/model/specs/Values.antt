@@ -21,22 +21,11 @@ abbrev pub choices : List Constant → ℕ → List ℕ
 choices cs zero = unbound ∷ []
 choices cs (suc k) = ofKind (suc k) 0 cs
 
--- all bindings of variables of these kinds, ascending. A binding has a constant for each variable number, `unbound` where the variable is not there.
-abbrev pub bindings : List Constant → List ℕ → List (List ℕ)
-bindings cs ks = product (map (choices cs) ks)
-
 -- the constant that stands for an expression under a binding
 abbrev pub bound : List ℕ → Expr → ℕ
 bound θ (con c) = c
 bound θ (var v) = getD θ v unbound
 bound θ today = unbound
-
--- of an assertion
-abbrev pub kindsOf : World → Assertion → ℕ → ℕ
-kindsOf W a = kindOf (demandsOf (W .verbs) a .places)
-
-abbrev pub bindingsOf : World → Assertion → List (List ℕ)
-bindingsOf W a = bindings (W .constants) (map (kindsOf W a) variables)
 
 -- ---- labels: the one place that says which are alike, and which begins with which
 
@@ -73,3 +62,16 @@ operator (suc (suc (suc (suc (suc (suc n)))))) l r = false
 
 abbrev pub passes : World → List ℕ → Constraint → Bool
 passes W θ c = operator (c .op) (value W θ (c .left)) (value W θ (c .right))
+
+-- ==== Computed from here on: all bindings as a list. `Theorems.InstanceBindings` and `AnswerBindings` say which they are.
+
+-- all bindings of variables of these kinds, ascending. A binding has a constant for each variable number, `unbound` where the variable is not there.
+abbrev pub bindings : List Constant → List ℕ → List (List ℕ)
+bindings cs ks = product (map (choices cs) ks)
+
+-- of an assertion
+abbrev pub kindsOf : World → Assertion → ℕ → ℕ
+kindsOf W a = kindOf (demandsOf (W .verbs) a .places)
+
+abbrev pub bindingsOf : World → Assertion → List (List ℕ)
+bindingsOf W a = bindings (W .constants) (map (kindsOf W a) variables)

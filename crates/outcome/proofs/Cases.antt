@@ -2,20 +2,20 @@
 use mathlib.Core.Path.{_≡_, refl}
 use mathlib.Core.List.{[]}
 use Rattle.model.specs.Decision.{report, allow, deny, refusal}
-use Rattle.outcome.specs.Line.{text, decimalBy, decimal, counts, sideWord, refused, lineBy, lineOf}
+use Rattle.outcome.specs.Line.{text, decimalBy, decimal, decisionLine, sideWord, refusalLine, lineBy, lineOf}
 
 pub belt : lineOf (report allow 10 3 1 [] []) ≡ text "allow facts 10 rounds 3 answers 1\n"
-unfolding decimalBy decimal counts lineBy lineOf
+unfolding decimalBy decimal decisionLine lineBy lineOf
 belt = refl
 
 pub denied : lineOf (report deny 6 1 0 [] []) ≡ text "deny facts 6 rounds 1 answers 0\n"
-unfolding decimalBy decimal counts lineBy lineOf
+unfolding decimalBy decimal decisionLine lineBy lineOf
 denied = refl
 
 pub full : lineOf (report (refusal 8 0 0) 0 0 0 [] []) ≡ text "refused 8 none 0\n"
-unfolding decimalBy decimal sideWord refused lineBy lineOf
+unfolding decimalBy decimal sideWord refusalLine lineBy lineOf
 full = refl
 
 pub unsafe : lineOf (report (refusal 7 2 9) 0 0 0 [] []) ≡ text "refused 7 request 9\n"
-unfolding decimalBy decimal sideWord refused lineBy lineOf
+unfolding decimalBy decimal sideWord refusalLine lineBy lineOf
 unsafe = refl

@@ -2,3 +2,4 @@ pub mod Decimals
 pub mod Writing
 pub mod Lines
 pub mod Cases
+pub mod Spelling

@@ -6,11 +6,11 @@ use mathlib.Core.List.{List, [], _++_}
 use lib.ListN.{length, take, drop}
 use lib.Seq.{length-take-le}
 use borrow.Author.Tests.{eq-eqb, ne-eqb}
-use Rattle.outcome.specs.Line.{text, decimal, counts, sideWord, refused, lineBy, lineOf}
+use Rattle.outcome.specs.Line.{text, decimal, decisionLine, sideWord, refusalLine, lineBy, lineOf}
 use Rattle.outcome.specs.Reported.{reportOf}
 use Rattle.outcome.specs.Wrote.{Wrote}
 use Rattle.outcome.specs.declared.Outcome.{Outcome}
-use Rattle.outcome.specs.declared.Outcome.the-variants.{Allow, Deny, Refused, TooManyFacts, TooManyAnswers}
+use Rattle.outcome.specs.declared.Outcome.the-variants.{Allow, Deny, PolicyRefused, RequestRefused, TooManyFacts, TooManyAnswers}
 use Rattle.outcome.proofs.Decimals.{twenty}
 use Rattle.outcome.proofs.Writing.{onto}
 
@@ -26,8 +26,8 @@ pub counts-are : {a b c d e : List ℕ} {p q r s : ℕ} (at facts rounds answers
     → Wrote b c p q (p + 8 + 20) (take p b ++ text " rounds " ++ decimal rounds)
     → Wrote c d q r (q + 9 + 20) (take q c ++ text " answers " ++ decimal answers)
     → Wrote d e r s (r + 1) (take r d ++ text "\n")
-    → Wrote a e at s (at + 85) (counts (take at a) facts rounds answers)
-unfolding counts
+    → Wrote a e at s (at + 85) (decisionLine (take at a) facts rounds answers)
+unfolding decisionLine
 counts-are at facts rounds answers v w x y =
     onto (λ l. l ++ text "\n") (at + 85)
     (onto (λ l. l ++ text " answers " ++ decimal answers) (at + 84)
@@ -45,7 +45,14 @@ module _ {a b : List ℕ} {r : ℕ} (at side : ℕ) where
 
   pub side-none : (side ≡ 1 → ⊥) → (side ≡ 2 → ⊥) → Wrote a b at r (at + 6) (take at a ++ text " none ") → Wrote a b at r (at + 9) (take at a ++ sideWord side)
   unfolding sideWord
-  side-none f g w = rw (ne-eqb side 1 f, ne-eqb side 2 g) (record { is = w .is; rest = w .rest; onward = w .onward; near = let i = w .near in omega arith; whole = w .whole })
+  side-none f g w = rw (ne-eqb side 1 f, ne-eqb side 2 g) (record {
+    is = w .is;
+    rest = w .rest;
+    onward = w .onward;
+    near = let i = w .near in
+        omega arith;
+    whole = w .whole;
+  })
 
 -- number, side and place
 pub refused-is : {a b c d e : List ℕ} {p q r s : ℕ} (number side place : ℕ) → place < 18446744073709551616
@@ -53,8 +60,8 @@ pub refused-is : {a b c d e : List ℕ} {p q r s : ℕ} (number side place : ℕ
     → Wrote b c p q (p + 9) (take p b ++ sideWord side)
     → Wrote c d q r (q + length (decimal place)) (take q c ++ decimal place)
     → Wrote d e r s (r + 1) (take r d ++ text "\n")
-    → Wrote a e 0 s 96 (refused number side place)
-unfolding refused
+    → Wrote a e 0 s 96 (refusalLine number side place)
+unfolding refusalLine
 refused-is number side place h v w x y =
     onto (λ l. l ++ text "\n") 96
     (onto (λ l. l ++ decimal place) 57
@@ -74,33 +81,42 @@ line-is {b = b} {r = r} o t e l w =
     ((k, sym (length-take-le r b k)), (w .is ∙ sym e, w .rest))
 
 pub allow-is : {a b c : List ℕ} {p q : ℕ} (o : Outcome) (facts rounds answers : ℕ) → o ≡ Outcome.Allow facts rounds answers → length a ≡ 96
-    → Wrote a b 0 p 5 (text "allow") → Wrote b c p q (p + 85) (counts (take p b) facts rounds answers) → Line a c q o
+    → Wrote a b 0 p 5 (text "allow") → Wrote b c p q (p + 85) (decisionLine (take p b) facts rounds answers) → Line a c q o
 unfolding lineOf lineBy
-allow-is o facts rounds answers e l v w = line-is o (counts (text "allow") facts rounds answers) (rw e) l (onto (λ x. counts x facts rounds answers) 96 v w (λ i. omega arith))
+allow-is o facts rounds answers e l v w = line-is o (decisionLine (text "allow") facts rounds answers) (rw e) l
+    (onto (λ x. decisionLine x facts rounds answers) 96 v w (λ i. omega arith))
 
 pub deny-is : {a b c : List ℕ} {p q : ℕ} (o : Outcome) (facts rounds : ℕ) → o ≡ Outcome.Deny facts rounds → length a ≡ 96
-    → Wrote a b 0 p 4 (text "deny") → Wrote b c p q (p + 85) (counts (take p b) facts rounds 0) → Line a c q o
+    → Wrote a b 0 p 4 (text "deny") → Wrote b c p q (p + 85) (decisionLine (take p b) facts rounds 0) → Line a c q o
 unfolding lineOf lineBy
-deny-is o facts rounds e l v w = line-is o (counts (text "deny") facts rounds 0) (rw e) l (onto (λ x. counts x facts rounds 0) 96 v w (λ i. omega arith))
+deny-is o facts rounds e l v w = line-is o (decisionLine (text "deny") facts rounds 0) (rw e) l
+    (onto (λ x. decisionLine x facts rounds 0) 96 v w (λ i. omega arith))
 
-pub input-is : {a b : List ℕ} {r : ℕ} (o : Outcome) (number side place : ℕ) → o ≡ Outcome.Refused number side place → length a ≡ 96
-    → Wrote a b 0 r 96 (refused number side place) → Line a b r o
+pub policy-is : {a b : List ℕ} {r : ℕ} (o : Outcome) (number place : ℕ) → o ≡ Outcome.PolicyRefused number place → length a ≡ 96
+    → Wrote a b 0 r 96 (refusalLine number 1 place) → Line a b r o
 unfolding lineOf lineBy
-input-is o number side place e l w = line-is o (refused number side place) (rw e) l w
+policy-is o number place e l w = line-is o (refusalLine number 1 place) (rw e) l w
 
-pub facts-are : {a b : List ℕ} {r : ℕ} (o : Outcome) → o ≡ Outcome.TooManyFacts → length a ≡ 96 → Wrote a b 0 r 96 (refused 8 0 0) → Line a b r o
+pub request-is : {a b : List ℕ} {r : ℕ} (o : Outcome) (number place : ℕ) → o ≡ Outcome.RequestRefused number place → length a ≡ 96
+    → Wrote a b 0 r 96 (refusalLine number 2 place) → Line a b r o
 unfolding lineOf lineBy
-facts-are o e l w = line-is o (refused 8 0 0) (rw e) l w
+request-is o number place e l w = line-is o (refusalLine number 2 place) (rw e) l w
 
-pub answers-are : {a b : List ℕ} {r : ℕ} (o : Outcome) (facts rounds : ℕ) → o ≡ Outcome.TooManyAnswers facts rounds → length a ≡ 96 → Wrote a b 0 r 96 (refused 9 0 0) → Line a b r o
+pub facts-are : {a b : List ℕ} {r : ℕ} (o : Outcome) → o ≡ Outcome.TooManyFacts → length a ≡ 96 → Wrote a b 0 r 96 (refusalLine 8 0 0) → Line a b r o
 unfolding lineOf lineBy
-answers-are o facts rounds e l w = line-is o (refused 9 0 0) (rw e) l w
+facts-are o e l w = line-is o (refusalLine 8 0 0) (rw e) l w
+
+pub answers-are : {a b : List ℕ} {r : ℕ} (o : Outcome) (facts rounds : ℕ) → o ≡ Outcome.TooManyAnswers facts rounds → length a ≡ 96
+    → Wrote a b 0 r 96 (refusalLine 9 0 0) → Line a b r o
+unfolding lineOf lineBy
+answers-are o facts rounds e l w = line-is o (refusalLine 9 0 0) (rw e) l w
 
 -- the line does not read the buffers
 pub any-buffers : (o : Outcome) (facts answers : List ℕ) → lineOf (reportOf o facts answers) ≡ lineOf (reportOf o [] [])
 unfolding lineOf
 any-buffers (Allow f r a) facts answers = refl
 any-buffers (Deny f r) facts answers = refl
-any-buffers (Refused n s p) facts answers = refl
+any-buffers (PolicyRefused n p) facts answers = refl
+any-buffers (RequestRefused n p) facts answers = refl
 any-buffers TooManyFacts facts answers = refl
 any-buffers (TooManyAnswers f r) facts answers = refl

@@ -22,8 +22,8 @@ unfoldable pub decimal : ℕ → List ℕ
 decimal n = decimalBy (suc n) n
 
 -- `allow facts 10 rounds 3 answers 1`: "decision word (allow or deny), then the three counts"
-unfoldable pub counts : List ℕ → ℕ → ℕ → ℕ → List ℕ
-counts word facts rounds answers =
+unfoldable pub decisionLine : List ℕ → ℕ → ℕ → ℕ → List ℕ
+decisionLine word facts rounds answers =
     word ++ text " facts " ++ decimal facts ++ text " rounds " ++ decimal rounds ++ text " answers " ++ decimal answers ++ text "\n"
 
 -- "side (policy, request, none)"
@@ -31,13 +31,13 @@ unfoldable pub sideWord : ℕ → List ℕ
 sideWord side = cond (eqb side 1) (text " policy ") (cond (eqb side 2) (text " request ") (text " none "))
 
 -- `refused 8 none 0`: "number, side, place"
-unfoldable pub refused : ℕ → ℕ → ℕ → List ℕ
-refused number side place = text "refused " ++ decimal number ++ sideWord side ++ decimal place ++ text "\n"
+unfoldable pub refusalLine : ℕ → ℕ → ℕ → List ℕ
+refusalLine number side place = text "refused " ++ decimal number ++ sideWord side ++ decimal place ++ text "\n"
 
 unfoldable pub lineBy : Verdict → ℕ → ℕ → ℕ → List ℕ
-lineBy allow facts rounds answers = counts (text "allow") facts rounds answers
-lineBy deny facts rounds answers = counts (text "deny") facts rounds answers
-lineBy (refusal number side place) facts rounds answers = refused number side place
+lineBy allow facts rounds answers = decisionLine (text "allow") facts rounds answers
+lineBy deny facts rounds answers = decisionLine (text "deny") facts rounds answers
+lineBy (refusal number side place) facts rounds answers = refusalLine number side place
 
 unfoldable pub lineOf : Report → List ℕ
 lineOf r = lineBy (r .verdict) (r .facts) (r .rounds) (r .answers)

@@ -3,18 +3,20 @@ ghost use mathlib.Core.Path.{_≡_};
 ghost use mathlib.Core.List.{[], _++_};
 ghost use Prim.Native.Nat.{_+_, _≤_, _<_};
 ghost use lib.ListN.{length, take, drop};
-ghost use Rattle.outcome.specs.Line.{decimal, counts, sideWord, refused, lineOf};
+ghost use Rattle.outcome.specs.Line.{decimal, decisionLine, sideWord, refusalLine, lineOf};
 ghost use Rattle.outcome.specs.Reported.{reportOf};
 ghost use Rattle.outcome.specs.Wrote.{Wrote};
 
-// A decision, or one of nine numbered refusals with a place.
+// A decision, or one of nine numbered refusals with a place: one outcome for each report (`specs/Reported.OneSpelling`).
 pub enum Outcome {
     // the counts of facts, rounds and answers
     Allow(usize, usize, usize),
     // the counts of facts and rounds
     Deny(usize, usize),
-    // 1 to 7: the number, the side (1 policy, 2 request) and the place
-    Refused(u8, u8, usize),
+    // side policy, 1 to 6: the number and the place
+    PolicyRefused(u8, usize),
+    // side request, 1, 2, 3, 5 or 7: the number and the place
+    RequestRefused(u8, usize),
     // 8
     TooManyFacts,
     // 9: the counts of facts and rounds
@@ -59,7 +61,8 @@ fn digits(out: &mut [u8], at: usize, n: usize) -> usize
 // A word and a number, which has 20 digits at most.
 fn labelled(out: &mut [u8], at: usize, w: &[u8], n: usize) -> usize
     requires { ⌜ at + length (now w) + 20 ≤ length (now out) ⌝ }
-    ensures { λ r. ⌜ Wrote (now (out .entry)) (now (out .exit)) at r (at + length (now (w .entry)) + 20) (take at (now (out .entry)) ++ now (w .entry) ++ decimal n) ⌝ }
+    ensures { λ r. ⌜ Wrote (now (out .entry)) (now (out .exit)) at r (at + length (now (w .entry)) + 20)
+        (take at (now (out .entry)) ++ now (w .entry) ++ decimal n) ⌝ }
 {
     let end = word(out, at, w);
     digits(out, end, n)
@@ -68,7 +71,7 @@ fn labelled(out: &mut [u8], at: usize, w: &[u8], n: usize) -> usize
 // The three counts, after the decision word.
 fn counted(out: &mut [u8], at: usize, facts: usize, rounds: usize, answers: usize) -> usize
     requires { ⌜ at + 85 ≤ length (now out) ⌝ }
-    ensures { λ r. ⌜ Wrote (now (out .entry)) (now (out .exit)) at r (at + 85) (counts (take at (now (out .entry))) facts rounds answers) ⌝ }
+    ensures { λ r. ⌜ Wrote (now (out .entry)) (now (out .exit)) at r (at + 85) (decisionLine (take at (now (out .entry))) facts rounds answers) ⌝ }
 {
     let mut end = labelled(out, at, b" facts ", facts);
     end = labelled(out, end, b" rounds ", rounds);
@@ -91,7 +94,7 @@ fn side_word(out: &mut [u8], at: usize, side: u8) -> usize
 
 fn refusal(out: &mut [u8], number: usize, side: u8, place: usize) -> usize
     requires { ⌜ 96 ≤ length (now out) ⌝ }
-    ensures { λ r. ⌜ Wrote (now (out .entry)) (now (out .exit)) 0 r 96 (refused number side place) ⌝ }
+    ensures { λ r. ⌜ Wrote (now (out .entry)) (now (out .exit)) 0 r 96 (refusalLine number side place) ⌝ }
 {
     let mut end = labelled(out, 0, b"refused ", number);
     end = side_word(out, end, side);
@@ -114,7 +117,8 @@ pub fn line(o: Outcome, out: &mut [u8; 96]) -> usize
             let end = word(out, 0, b"deny");
             counted(out, end, facts, rounds, 0)
         }
-        Outcome::Refused(number, side, place) => refusal(out, number as usize, side, place),
+        Outcome::PolicyRefused(number, place) => refusal(out, number as usize, 1, place),
+        Outcome::RequestRefused(number, place) => refusal(out, number as usize, 2, place),
         Outcome::TooManyFacts => refusal(out, 8, 0, 0),
         Outcome::TooManyAnswers(_, _) => refusal(out, 9, 0, 0),
     }

@@ -6,28 +6,29 @@ use Prim.Native.Nat.{ℕ, zero, suc, _+_, _-_, _≤_, _<_}
 use native.Mathlib.Numerals.{add-one}
 use native.Mathlib.Omega.{arith}
 use native.Mathlib.Decide.{decLt}
-use lib.Dec.{ltb}
 use lib.ListN.{length, getD, take, drop, List·getD-eq-default}
 use lib.Seq.{drop-cons}
 use borrow.Author.Tests.{lt-ltb, le-ltb}
 use Rattle.wire.proofs.Reading.{choose-true, choose-false, on-yes, on-no}
 use Rattle.model.specs.Limits.{maxConstants}
 use Rattle.model.specs.Syntax.{Constant}
-use Rattle.model.specs.Kinds.{noConstant, kindAt}
-use Rattle.model.specs.Bytes.{byteAt, u16At, bytesAt, choose, Reading, got, refused, andThen}
+use Rattle.model.specs.Kinds.{noConstant}
+use Rattle.model.specs.Bytes.{byteAt, u16At, bytesAt, choose, Reading, got, refused}
 use Rattle.model.specs.Readings.{itemEnd, endsBy, hasLabel, constantAt}
 use Rattle.model.specs.Forms.{constantForm}
-use Rattle.model.specs.Policies.{Item, contents, headed, ended, listAt, constantItem, Accepted, assertionsFrom, verbsFrom, constantsFrom, readPolicy}
+use Rattle.model.specs.Policies.{Item, contents, headed, ended, constantItem, Accepted, assertionsFrom, verbsFrom, constantsFrom, readPolicy}
 use Rattle.model.proofs.ReadFacts.{choose-yes, andThen-got}
 use Rattle.policy.specs.declared.Index.{Index}
 use Rattle.policy.specs.declared.Part.{Part}
-use Rattle.policy.specs.Items.{startsAt, itemsAt, constantsAt}
-use Rattle.policy.specs.Index.{held, kindTable, indexOf, refusal, handedOut, labelIn, labelOf, noPart, partAt, labelPart}
+use Rattle.policy.specs.Items.{constantsAt}
+use Rattle.policy.specs.Index.{held, indexOf, refusal, handedOut, labelIn, labelOf, noPart, partAt, labelPart}
 use Rattle.policy.proofs.FormFacts.{constant-within, constant-two}
-use Rattle.policy.proofs.ListFacts.{Counted, list-got, items-length, items-starts, contents-at, contents-length, starts-at}
+use Rattle.policy.proofs.ListFacts.{list-got, items-length, items-starts, contents-at, contents-length, starts-at}
 use Rattle.policy.proofs.ItemFacts.{constant-reads}
 use Rattle.policy.proofs.TableFacts.{held-at, kind-is}
 use Rattle.policy.proofs.PolicyFacts.{Constants, constants-counted, constants-right}
+use Rattle.model.proofs.PolicyReader.{policy-is}
+use Rattle.model.specs.Policies.{computedPolicy}
 
 -- n bytes from p on are a part of the list
 part-is : (n : ℕ) (s : List ℕ) (p : ℕ) → p + n ≤ length s → take n (drop p s) ≡ bytesAt n s p
@@ -55,9 +56,9 @@ record Read (s : List ℕ) (A : Accepted) : Type 0 where
   right : (c : ℕ) → c < u16At s 5 → constantForm s (endsBy (itemEnd s) c 7) ≡ true
 
 read-got : (s : List ℕ) (A : Accepted) (e : ℕ) → readPolicy s ≡ got A e → Read s A
-unfolding readPolicy headed constantsFrom verbsFrom assertionsFrom ended
+unfolding computedPolicy headed constantsFrom verbsFrom assertionsFrom ended
 read-got s A e h =
-    let r = choose-yes _ _ 2 1 A e (choose-yes _ _ 1 0 A e h .1) .1 in
+    let r = choose-yes _ _ 2 1 A e (choose-yes _ _ 1 0 A e (sym (policy-is s) ∙ h) .1) .1 in
     let c = andThen-got _ _ A e r in
     let v = andThen-got _ _ A e (c .3) in
     let a = andThen-got _ _ A e (v .3) in
@@ -81,16 +82,19 @@ module _ (s : List ℕ) (A : Accepted) (e : ℕ) (h : readPolicy s ≡ got A e) 
   unfolding indexOf
   offset-at c l =
       ap (λ (is : List (Item Constant)). getD (held maxConstants (map (λ (i : Item Constant). i .at) is)) c 0) (there .constants)
-      ∙ held-at maxConstants _ c ∙ ap (λ (o : List ℕ). getD o c 0) (items-starts (constantAt s) (itemEnd s) (u16At s 5) 7) ∙ starts-at (itemEnd s) (u16At s 5) 7 c l
+      ∙ held-at maxConstants _ c ∙ ap (λ (o : List ℕ). getD o c 0) (items-starts (constantAt s) (itemEnd s) (u16At s 5) 7)
+      ∙ starts-at (itemEnd s) (u16At s 5) 7 c l
 
   constant-at : (c : ℕ) → c < u16At s 5 → getD (contents (A .constants)) c noConstant ≡ constantAt s (endsBy (itemEnd s) c 7)
-  constant-at c l = ap (λ (is : List (Item Constant)). getD (contents is) c noConstant) (there .constants) ∙ contents-at (constantAt s) (itemEnd s) (u16At s 5) 7 c noConstant l
+  constant-at c l = ap (λ (is : List (Item Constant)). getD (contents is) c noConstant) (there .constants)
+      ∙ contents-at (constantAt s) (itemEnd s) (u16At s 5) 7 c noConstant l
 
   kind-at : (c : ℕ) → c < u16At s 5 → getD (indexOf A .kinds) c 0 ≡ byteAt s (endsBy (itemEnd s) c 7 + 1)
   unfolding indexOf constantAt
   kind-at c l = kind-is (contents (A .constants)) c ∙ ap (λ (d : Constant). d .kind) (constant-at c l)
 
-  part-at : (c : ℕ) → c < u16At s 5 → labelPart (indexOf A) s c ≡ choose (hasLabel (byteAt s (endsBy (itemEnd s) c 7 + 1))) (partAt s (endsBy (itemEnd s) c 7)) noPart
+  part-at : (c : ℕ) → c < u16At s 5 → labelPart (indexOf A) s c ≡ choose (hasLabel (byteAt s (endsBy (itemEnd s) c 7 + 1)))
+      (partAt s (endsBy (itemEnd s) c 7)) noPart
   unfolding labelPart
   part-at c l = choose-true _ _ (lt-ltb c _ (rw counts l)) ∙ ap₂ (λ (k o : ℕ). choose (hasLabel k) (partAt s o) noPart) (kind-at c l) (offset-at c l)
 
@@ -136,7 +140,8 @@ module _ (s : List ℕ) (c : ℕ) where
           by : Dec (c < u16At s 5) → slice s (labelPart (indexOf A) s c) ≡ getD (contents (A .constants)) c noConstant .label
           by (yes l) =
               let at = endsBy (itemEnd s) c 7 in
-              ap (slice s) (part-at s A e h c l) ∙ label-slice s at (there s A e h .right c l) (hasLabel (byteAt s (at + 1))) ∙ sym (ap (λ (d : Constant). d .label) (constant-at s A e h c l))
+              ap (slice s) (part-at s A e h c l) ∙ label-slice s at (there s A e h .right c l) (hasLabel (byteAt s (at + 1)))
+              ∙ sym (ap (λ (d : Constant). d .label) (constant-at s A e h c l))
           by (no l) = ap (slice s) (no-part s A e h c (omega arith)) ∙ sym (ap (λ (d : Constant). d .label) (no-constant s A e h c (omega arith)))
       go (refused n p) h = ap (slice s) (none-refused s n p c)
 
@@ -148,7 +153,8 @@ module _ (s : List ℕ) (c : ℕ) where
       go (got A e) h = by (decLt c (u16At s 5))
         where
           by : Dec (c < u16At s 5) → Within s (labelPart (indexOf A) s c)
-          by (yes l) = subst (Within s) (sym (part-at s A e h c l)) (label-within s (endsBy (itemEnd s) c 7) (there s A e h .right c l) (hasLabel (byteAt s (endsBy (itemEnd s) c 7 + 1))))
+          by (yes l) = subst (Within s) (sym (part-at s A e h c l)) (label-within s (endsBy (itemEnd s) c 7) (there s A e h .right c l)
+              (hasLabel (byteAt s (endsBy (itemEnd s) c 7 + 1))))
           by (no l) = subst (Within s) (sym (no-part s A e h c (omega arith))) (none-within s)
       go (refused n p) h = subst (Within s) (sym (none-refused s n p c)) (none-within s)
 

@@ -6,7 +6,7 @@ use lib.Dec.{eqb, ltb}
 use Rattle.model.specs.Limits.{maxConstants, maxVerbs, maxAssertions, principal}
 use Rattle.model.specs.Lists.{each, pad}
 use Rattle.model.specs.Syntax.{Constant, Verb}
-use Rattle.model.specs.Kinds.{noConstant}
+unfoldable pub use Rattle.model.specs.Labels.{labelIn, labelOf}
 use Rattle.model.specs.Bytes.{byteAt, u16At, choose, Reading, got, refused}
 use Rattle.model.specs.Readings.{itemEnd, assertionEnd, hasLabel}
 use Rattle.model.specs.Policies.{contents, offsets, Accepted, readPolicy}
@@ -64,15 +64,6 @@ refusal n p = record {
 unfoldable pub handedOut : Reading Accepted → Index
 handedOut (got A e) = indexOf A
 handedOut (refused n p) = refusal n p
-
--- ---- "For a principal or thing, the label handed out is that part of the caller's policy bytes; for other kinds, numbers not present and policies not accepted it is an empty part."
-
-unfoldable pub labelIn : Reading Accepted → ℕ → List ℕ
-labelIn (got A e) c = getD (contents (A .constants)) c noConstant .label
-labelIn (refused n p) c = []
-
-unfoldable pub labelOf : List ℕ → ℕ → List ℕ
-labelOf s c = labelIn (readPolicy s) c
 
 -- ---- the same as the code finds it, by offsets: the verbs' count at p, the assertions' at q
 

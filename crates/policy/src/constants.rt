@@ -73,7 +73,8 @@ fn constant_form(s: &[u8], at: usize) -> bool
 // The labels of the constants at q and at p, both of a kind that has one.
 fn same_label(s: &[u8], q: usize, p: usize) -> bool
     requires { ⌜ (p < q) × (itemEnd (now s) q ≤ length (now s)) × (2 ≤ byteAt (now s) q) ⌝ }
-    ensures { λ r. ⌜ r ≡ sameList (bytesAt (byteAt (now (s .entry)) q - 1) (now (s .entry)) (q + 2)) (bytesAt (byteAt (now (s .entry)) p - 1) (now (s .entry)) (p + 2)) ⌝ }
+    ensures { λ r. ⌜ r ≡ sameList (bytesAt (byteAt (now (s .entry)) q - 1) (now (s .entry)) (q + 2))
+        (bytesAt (byteAt (now (s .entry)) p - 1) (now (s .entry)) (p + 2)) ⌝ }
 {
     let n = wire::byte(s, q);
     if n == wire::byte(s, p) {

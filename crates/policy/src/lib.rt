@@ -64,7 +64,8 @@ fn accepted(
     kinds: [u8; limits::CONSTANTS],
     signatures: [u8; tables::SIGNATURES],
 ) -> Index
-    requires { ⌜ (p ≤ length (now s)) × (q ≤ length (now s)) × (length (now s) ≤ longest) × (u16At (now s) 5 ≤ maxConstants) × (u16At (now s) p ≤ maxVerbs) × (u16At (now s) q ≤ maxAssertions) ⌝ }
+    requires { ⌜ (p ≤ length (now s)) × (q ≤ length (now s)) × (length (now s) ≤ longest) × (u16At (now s) 5 ≤ maxConstants) × (u16At (now s) p ≤ maxVerbs)
+        × (u16At (now s) q ≤ maxAssertions) ⌝ }
     ensures { λ r. ⌜ r ≡ indexAt (now (s .entry)) p q kinds signatures ⌝ }
 {
     let n = wire::u16_or(s, limits::HEADER);
@@ -88,8 +89,10 @@ fn accepted(
 
 // Constants and verbs are in order: the verbs' count stands at p, the assertions' at q.
 fn with_verbs(s: &[u8], p: usize, q: usize) -> Index
-    requires { ⌜ (length (now s) ≤ longest) × (listAt (now s) 1 maxConstants (constantItem (now s)) 5 ≡ got (constantsAt (now s) (u16At (now s) 5) 7) p) × (listAt (now s) 0 maxVerbs (verbItem (now s)) p ≡ got (verbsAt (now s) (u16At (now s) p) (p + 2)) q) ⌝ }
-    ensures { λ r. ⌜ r ≡ handedOut (assertionsFrom (now (s .entry)) (constantsAt (now (s .entry)) (u16At (now (s .entry)) 5) 7) (verbsAt (now (s .entry)) (u16At (now (s .entry)) p) (p + 2)) q) ⌝ }
+    requires { ⌜ (length (now s) ≤ longest) × (listAt (now s) 1 maxConstants (constantItem (now s)) 5 ≡ got (constantsAt (now s) (u16At (now s) 5) 7) p)
+        × (listAt (now s) 0 maxVerbs (verbItem (now s)) p ≡ got (verbsAt (now s) (u16At (now s) p) (p + 2)) q) ⌝ }
+    ensures { λ r. ⌜ r ≡ handedOut (assertionsFrom (now (s .entry)) (constantsAt (now (s .entry)) (u16At (now (s .entry)) 5) 7)
+        (verbsAt (now (s .entry)) (u16At (now (s .entry)) p) (p + 2)) q) ⌝ }
 {
     let kinds = tables::kinds(s, wire::u16_or(s, limits::HEADER), FIRST_CONSTANT);
     let signatures = tables::signatures(s, wire::u16_or(s, p), p + 2);

@@ -4,20 +4,22 @@ use mathlib.Core.Logic.{_⊎_, inl, inr, ⊎-elim}
 use mathlib.Core.Bool.{Bool, true, false, cond, not}
 use mathlib.Core.Option as option
 use mathlib.Core.Option.{Option, some}
-use mathlib.Core.List.{List, [], _∷_, _++_, List·Memᴰ, List·Memᴰ·head, List·Memᴰ·tail, List·Memᴰ·not-nil, List·Memᴰ·cases-cons, List·Memᴰ·eq-of-singleton, List·Memᴰ·append-cases, Memᴰ·append-left, Memᴰ·append-right}
+use mathlib.Core.List.{List, [], _∷_, _++_, List·Memᴰ, List·Memᴰ·head, List·Memᴰ·tail, List·Memᴰ·not-nil, List·Memᴰ·cases-cons}
+use mathlib.Core.List.{List·Memᴰ·eq-of-singleton, List·Memᴰ·append-cases, Memᴰ·append-left, Memᴰ·append-right}
 use Prim.Native.Nat.{ℕ, _≤_}
 use native.Mathlib.Omega.{arith}
 use lib.ListN.{length}
 use lib.Dec.{T, eqb, eqb→eq, eqb-refl}
 use Rattle.model.specs.Limits.{principal}
 use Rattle.model.specs.Lists.{each, member, among, without}
-use Rattle.model.specs.Syntax.{Expr, con, var, today, Fact, flat, canSay, Verb, Node, Nodes, says, test, allOf, anyOf, non, exists, end, more, varsOf, varsIn, varsTest}
+use Rattle.model.specs.Syntax.{Expr, con, var, today, Fact, flat, canSay, Verb, Node, Nodes, says, test, allOf, anyOf, non, exists, end, more, varsOf}
+use Rattle.model.specs.Syntax.{varsIn, varsTest}
 use Rattle.model.specs.Kinds.{pair, paramKinds, places, demandsIn, demandsAll, isVar, kindOf}
 use Rattle.model.specs.Requests.{free, freeAll}
 use Rattle.model.specs.Safety.{provided, onward, known, knownAll, knownAny, binders, bindersAll}
 use Rattle.model.specs.Records.{Arity}
 use Rattle.model.proofs.ListFacts.{all-of, each-of, each-in, keep-of, keep-in, member-of, member-in}
-use Rattle.request.proofs.CheckLaws.{Some, Sound, SoundAll}
+use Rattle.model.proofs.CheckedNodes.{Some, Sound, SoundAll}
 
 -- ---- places
 
@@ -37,7 +39,8 @@ pair-in e (k ∷ ks) (x ∷ es) l m =
 pair-of : (k : ℕ) (e : Expr) (ks : List ℕ) (es : List Expr) → List·Memᴰ (k, e) (pair ks es) → List·Memᴰ e es
 pair-of k e [] es m = absurd (List·Memᴰ·not-nil m)
 pair-of k e (j ∷ ks) [] m = absurd (List·Memᴰ·not-nil m)
-pair-of k e (j ∷ ks) (x ∷ es) m = ⊎-elim (λ q. List·Memᴰ·head (ap (λ (p : ℕ × Expr). p .1) q)) (λ n. List·Memᴰ·tail (pair-of k e ks es n)) (List·Memᴰ·cases-cons m)
+pair-of k e (j ∷ ks) (x ∷ es) m = ⊎-elim (λ q. List·Memᴰ·head (ap (λ (p : ℕ × Expr). p .1) q)) (λ n. List·Memᴰ·tail (pair-of k e ks es n))
+    (List·Memᴰ·cases-cons m)
 
 module _ (vs : List Verb) where
   abbrev In : ℕ → List (ℕ × Expr) → Type 0
@@ -62,9 +65,11 @@ module _ (vs : List Verb) where
 
   fact-of : (v k : ℕ) (f : Fact Expr) → List·Memᴰ (k, var v) (places vs f) → List·Memᴰ v (varsIn f)
   fact-of v k (flat s w ps) m =
-      ⊎-elim (λ q. Memᴰ·append-left _ (own v k principal s q)) (λ n. Memᴰ·append-right (varsOf s) (each-in varsOf (pair-of k (var v) (paramKinds vs w) ps n) (List·Memᴰ·head refl)))
+      ⊎-elim (λ q. Memᴰ·append-left _ (own v k principal s q)) (λ n. Memᴰ·append-right (varsOf s)
+      (each-in varsOf (pair-of k (var v) (paramKinds vs w) ps n) (List·Memᴰ·head refl)))
       (List·Memᴰ·cases-cons m)
-  fact-of v k (canSay s d f) m = ⊎-elim (λ q. Memᴰ·append-left _ (own v k principal s q)) (λ n. Memᴰ·append-right (varsOf s) (fact-of v k f n)) (List·Memᴰ·cases-cons m)
+  fact-of v k (canSay s d f) m = ⊎-elim (λ q. Memᴰ·append-left _ (own v k principal s q)) (λ n. Memᴰ·append-right (varsOf s) (fact-of v k f n))
+      (List·Memᴰ·cases-cons m)
 
   -- ---- what has a place is free or bound
 
@@ -73,7 +78,8 @@ module _ (vs : List Verb) where
 
   mutual
     pub place-used : (n : Node) (v k : ℕ) → List·Memᴰ (k, var v) (demandsIn n vs .places) → Used v (free n) (binders n)
-    place-used (says e f) v k m = inl (⊎-elim (λ q. Memᴰ·append-left _ (own v k principal e q)) (λ n. Memᴰ·append-right (varsOf e) (fact-of v k f n)) (List·Memᴰ·cases-cons m))
+    place-used (says e f) v k m = inl (⊎-elim (λ q. Memᴰ·append-left _ (own v k principal e q)) (λ n. Memᴰ·append-right (varsOf e) (fact-of v k f n))
+        (List·Memᴰ·cases-cons m))
     place-used (test c) v k m = absurd (List·Memᴰ·not-nil m)
     place-used (allOf ns) v k m = places-used ns v k m
     place-used (anyOf ns) v k m = places-used ns v k m
@@ -150,14 +156,19 @@ module _ (vs : List Verb) where
       no false t u = u
 
   says-covered : (e : Expr) (f : Fact Expr) → Arity vs f → (us : List ℕ) → Covered us ((principal, e) ∷ places vs f) (varsOf e ++ varsIn f)
-  says-covered e f a us v m = inr (⊎-elim (head-in v principal e (places vs f)) (λ n. let r = fact-in v f a n in (r .0, List·Memᴰ·tail (r .1))) (List·Memᴰ·append-cases (varsOf e) m))
+  says-covered e f a us v m = inr (⊎-elim (head-in v principal e (places vs f)) (λ n. let r = fact-in v f a n in (r .0, List·Memᴰ·tail (r .1)))
+      (List·Memᴰ·append-cases (varsOf e) m))
 
   mutual
     pub told : (n : Node) → Sound vs n → (us ws : List ℕ) → known n us ≡ some ws → Told us (demandsIn n vs .places) (free n) (binders n) ws
     told (says e (flat s w xs)) a us ws r =
         let ps = demandsIn (says e (flat s w xs)) vs .places in
         let c : Covered us ps (varsOf e ++ varsIn (flat s w xs)) = says-covered e (flat s w xs) a us in
-        record { after = subst (Covered us ps) (the-same _ ws r) (either us ps (varsOf e ++ varsIn (flat s w xs)) us c (before us ps)); frees = c; bounds = nil us ps }
+        record {
+          after = subst (Covered us ps) (the-same _ ws r) (either us ps (varsOf e ++ varsIn (flat s w xs)) us c (before us ps));
+          frees = c;
+          bounds = nil us ps;
+        }
     told (says e (canSay s d f)) a us ws r =
         let ps = demandsIn (says e (canSay s d f)) vs .places in
         let c : Covered us ps (varsOf e ++ varsIn (canSay s d f)) = says-covered e (canSay s d f) a us in
@@ -202,7 +213,8 @@ module _ (vs : List Verb) where
         record {
           after = onto us (k .0) ps qs ws (i .after) (j .after);
           frees = either us (ps ++ qs) (free n) (freeAll ns) (left us ps qs (free n) (i .frees)) (onto us (k .0) ps qs (freeAll ns) (i .after) (j .frees));
-          bounds = either us (ps ++ qs) (binders n) (bindersAll ns) (left us ps qs (binders n) (i .bounds)) (onto us (k .0) ps qs (bindersAll ns) (i .after) (j .bounds));
+          bounds = either us (ps ++ qs) (binders n) (bindersAll ns) (left us ps qs (binders n) (i .bounds))
+              (onto us (k .0) ps qs (bindersAll ns) (i .after) (j .bounds));
         }
 
     -- an any-of has a part: what is known after it is known after the first
@@ -216,7 +228,8 @@ module _ (vs : List Verb) where
         let i = told n (a .0) us (k .0) (k .1) in
         subst (Covered us (ps ++ qs)) (the-same _ ws (l .2)) (λ v m. left us ps qs (k .0) (i .after) v (keep-of (λ x. member x (l .0)) (k .0) m .0))
 
-    told-any : (ns : Nodes) → SoundAll vs ns → (us ws : List ℕ) → knownAny ns us ≡ some ws → Covered us (demandsAll ns vs .places) (freeAll ns) × Covered us (demandsAll ns vs .places) (bindersAll ns)
+    told-any : (ns : Nodes) → SoundAll vs ns → (us ws : List ℕ) → knownAny ns us ≡ some ws → Covered us (demandsAll ns vs .places) (freeAll ns)
+        × Covered us (demandsAll ns vs .places) (bindersAll ns)
     told-any end a us ws r = (nil us [], nil us [])
     told-any (more n ns) a us ws r =
         let ps = demandsIn n vs .places in
@@ -256,6 +269,7 @@ kind-some (p ∷ ps) v k h m = go (isVar v (p .1)) refl (kind-some ps v k (λ q 
     go true e ih z = let l = h p (List·Memᴰ·head refl) in omega arith
     go false e ih z =
         ⊎-elim
-        (λ q. let w : isVar v (p .1) ≡ true = ap (λ (x : ℕ × Expr). isVar v (x .1)) (sym q) ∙ so (eqb v v) (eqb-refl v) in let o : _≡_ {A = ℕ} 0 1 = cc in omega arith)
+        (λ q. let w : isVar v (p .1) ≡ true = ap (λ (x : ℕ × Expr). isVar v (x .1)) (sym q) ∙ so (eqb v v) (eqb-refl v) in let o : _≡_ {A = ℕ} 0 1 = cc in
+        omega arith)
         (λ n. ih n z)
         (List·Memᴰ·cases-cons m)

@@ -4,7 +4,6 @@ pub mod SafetySteps
 pub mod KnownSteps
 pub mod TreeLaws
 pub mod ReadLaws
-pub mod CheckLaws
 pub mod IssuerSteps
 pub mod RequestSteps
 pub mod SafeLaws

@@ -4,7 +4,8 @@ use mathlib.Core.Logic.{⊎-elim}
 use mathlib.Core.Bool.{Bool, true, false, cond, _&&_}
 use mathlib.Core.Option as option
 use mathlib.Core.Option.{Option, some}
-use mathlib.Core.List.{List, [], _∷_, _++_, map, List·Memᴰ, List·Memᴰ·head, List·Memᴰ·tail, List·Memᴰ·not-nil, List·Memᴰ·append-cases, Memᴰ·append-left, Memᴰ·append-right}
+use mathlib.Core.List.{List, [], _∷_, _++_, map, List·Memᴰ, List·Memᴰ·head, List·Memᴰ·tail, List·Memᴰ·not-nil, List·Memᴰ·append-cases}
+use mathlib.Core.List.{Memᴰ·append-left, Memᴰ·append-right}
 use Prim.Native.Nat.{ℕ, _+_, _-_, _<_}
 use native.Mathlib.Omega.{arith}
 use lib.ListN.{length, getD}
@@ -14,7 +15,8 @@ use borrow.Author.Tests.{eq-eqb, ne-eqb, lt-ltb}
 use Rattle.model.specs.Limits.{maxDay, maxDepth, firstNodeAt, headerBytes, principal}
 use Rattle.model.specs.Lists.{each, member, among, apart}
 use Rattle.model.specs.Syntax as syntax
-use Rattle.model.specs.Syntax.{Expr, var, Constraint, Constant, Verb, Node, Nodes, says, test, allOf, anyOf, non, exists, end, more, varsOf, varsIn, varsTest}
+use Rattle.model.specs.Syntax.{Expr, var, Constraint, Constant, Verb, Node, Nodes, says, test, allOf, anyOf, non, exists, end, more, varsOf, varsIn}
+use Rattle.model.specs.Syntax.{varsTest}
 use Rattle.model.specs.Kinds.{Demands, noDemands, places, occurring, demandsIn, demandsAll, kindOf, variables}
 use Rattle.model.specs.Requests.{free}
 use Rattle.model.specs.Safety.{known, binders, isSafe, safeRequest}
@@ -38,10 +40,12 @@ use Rattle.request.specs.declared.nodes.Got.{Got}
 use Rattle.request.specs.declared.Request.{Request}
 use Rattle.request.proofs.TreeLaws.{by-bool, tree-is}
 use Rattle.request.proofs.ReadLaws.{State, state-fits, Reads, reads-node, state-none}
-use Rattle.request.proofs.CheckLaws.{Sound, SoundAll, node-checked}
+use Rattle.model.proofs.CheckedNodes.{Sound, SoundAll, node-checked}
 use Rattle.request.proofs.SafeLaws.{Below, Small, SmallAll, mark-at, judged-is}
 use Rattle.request.proofs.KindLaws.{head-in, fact-in, place-used, told, kind-none, kind-some}
 use Rattle.request.proofs.RequestSteps.{eight}
+use Rattle.model.proofs.RequestReader.{request-is as plainly}
+use Rattle.model.specs.Nodes.{computedRequest}
 
 -- ---- the variables of a sound node whose demands fit are among the eight
 
@@ -50,18 +54,21 @@ module _ (vs : List Verb) where
   placed-low D l v k m = l v (Memᴰ·append-left _ (each-in (λ (p : ℕ × Expr). varsOf (p .1)) m (List·Memᴰ·head refl)))
 
   mutual
-    small : (n : Node) → Sound vs n → ((v k : ℕ) → List·Memᴰ (k, var v) (demandsIn n vs .places) → v < 8) → ((c : Constraint) → List·Memᴰ c (demandsIn n vs .tests) → Below (varsTest c)) → Small n
+    small : (n : Node) → Sound vs n → ((v k : ℕ) → List·Memᴰ (k, var v) (demandsIn n vs .places) → v < 8)
+        → ((c : Constraint) → List·Memᴰ c (demandsIn n vs .tests) → Below (varsTest c)) → Small n
     small (says e f) s l t = λ v m. let r = says-in v m in l v (r .0) (r .1)
       where
         says-in : (v : ℕ) → List·Memᴰ v (varsOf e ++ varsIn f) → (k : ℕ) × List·Memᴰ (k, var v) ((principal, e) ∷ places vs f)
-        says-in v m = ⊎-elim (λ a. head-in vs v principal e (places vs f) a) (λ a. let r = fact-in vs v f s a in (r .0, List·Memᴰ·tail (r .1))) (List·Memᴰ·append-cases (varsOf e) m)
+        says-in v m = ⊎-elim (λ a. head-in vs v principal e (places vs f) a) (λ a. let r = fact-in vs v f s a in (r .0, List·Memᴰ·tail (r .1)))
+            (List·Memᴰ·append-cases (varsOf e) m)
     small (test c) s l t = t c (List·Memᴰ·head refl)
     small (allOf ns) s l t = small-all ns s l t
     small (anyOf ns) s l t = small-all ns (s .1) l t
     small (non n) s l t = small n s l t
     small (exists v n) s l t = (s .0, small n (s .1) l t)
 
-    small-all : (ns : Nodes) → SoundAll vs ns → ((v k : ℕ) → List·Memᴰ (k, var v) (demandsAll ns vs .places) → v < 8) → ((c : Constraint) → List·Memᴰ c (demandsAll ns vs .tests) → Below (varsTest c)) → SmallAll ns
+    small-all : (ns : Nodes) → SoundAll vs ns → ((v k : ℕ) → List·Memᴰ (k, var v) (demandsAll ns vs .places) → v < 8)
+        → ((c : Constraint) → List·Memᴰ c (demandsAll ns vs .tests) → Below (varsTest c)) → SmallAll ns
     small-all end s l t = tt
     small-all (more n ns) s l t = (
       small n (s .0) (λ v k m. l v k (Memᴰ·append-left _ m)) (λ c m. t c (Memᴰ·append-left _ m)),
@@ -78,7 +85,8 @@ module _ (vs : List Verb) where
 same-map : (f g : ℕ → ℕ) → ((v : ℕ) → v < 8 → f v ≡ g v) → map f variables ≡ map g variables
 same-map f g h =
     eight g (f 0) (f 1) (f 2) (f 3) (f 4) (f 5) (f 6) (f 7)
-    (h 0 (omega arith)) (h 1 (omega arith)) (h 2 (omega arith)) (h 3 (omega arith)) (h 4 (omega arith)) (h 5 (omega arith)) (h 6 (omega arith)) (h 7 (omega arith))
+    (h 0 (omega arith)) (h 1 (omega arith)) (h 2 (omega arith)) (h 3 (omega arith)) (h 4 (omega arith)) (h 5 (omega arith)) (h 6 (omega arith))
+    (h 7 (omega arith))
 
 frees-are : (vs : List ℕ) → marked vs none ≡ marks vs
 frees-are vs =
@@ -96,7 +104,8 @@ T-of false e = let z : _≡_ {A = ℕ} 0 1 = cc in absurd (omega arith)
 not-member : (v : ℕ) (l : List ℕ) → member v l ≡ false → List·Memᴰ v l → ⊥
 not-member v l e m = subst T e (member-in m)
 
-module _ (cs : List Constant) (vs : List Verb) (n : Node) (t : List ℕ) (S : State cs t (demandsIn n vs)) (sound : Sound vs n) (safe : safeRequest n ≡ true) where
+module _ (cs : List Constant) (vs : List Verb) (n : Node) (t : List ℕ) (S : State cs t (demandsIn n vs)) (sound : Sound vs n)
+    (safe : safeRequest n ≡ true) where
   placed : (v : ℕ) → List·Memᴰ v (free n ++ binders n) → (k : ℕ) × List·Memᴰ (k, var v) (demandsIn n vs .places)
   placed v m =
       let a = and-of (isSafe (known n []) (free n) && apart (binders n)) _ (T-of _ safe) in
@@ -116,7 +125,8 @@ module _ (cs : List Constant) (vs : List Verb) (n : Node) (t : List ℕ) (S : St
       ps = demandsIn n vs .places
 
       cell : (kindOf ps v ≡ 0 → ⊥) → getD t v 0 ≡ kindOf ps v + 7
-      cell h = subst (λ (f : Fit). getD (f .of) v 0 ≡ kindOf ps v + 7) (S .fed) (kind-cell cs (demandsIn n vs) (S .regular) (S .asks) (S .alike) (ap (λ (f : Fit). f .ok) (S .fed)) v h)
+      cell h = subst (λ (f : Fit). getD (f .of) v 0 ≡ kindOf ps v + 7) (S .fed)
+          (kind-cell cs (demandsIn n vs) (S .regular) (S .asks) (S .alike) (ap (λ (f : Fit). f .ok) (S .fed)) v h)
 
       go : (b : Bool) → member v (free n ++ binders n) ≡ b → choose b (choose (ltb 7 (getD t v 0)) (getD t v 0 - 7) 0) 0 ≡ kindOf ps v
       go true e =
@@ -126,7 +136,8 @@ module _ (cs : List Constant) (vs : List Verb) (n : Node) (t : List ℕ) (S : St
           choose-true _ 0 refl ∙ choose-true (getD t v 0 - 7) 0 (lt-ltb 7 (getD t v 0) (omega arith)) ∙ omega arith
       go false e =
           choose-false _ 0 refl
-          ∙ sym (kind-none ps v (λ k m. not-member v (free n ++ binders n) e (⊎-elim (Memᴰ·append-left _) (Memᴰ·append-right (free n)) (place-used vs n v k m))))
+          ∙ sym (kind-none ps v (λ k m. not-member v (free n ++ binders n) e
+          (⊎-elim (Memᴰ·append-left _) (Memᴰ·append-right (free n)) (place-used vs n v k m))))
 
   pub kinds-are : cellKinds t (marked (binders n) (marked (free n) none)) ≡ map (kindOf (demandsIn n vs .places)) variables
   kinds-are = same-map (cellKind t (marked (binders n) (marked (free n) none))) (kindOf (demandsIn n vs .places)) kind-at
@@ -134,7 +145,8 @@ module _ (cs : List Constant) (vs : List Verb) (n : Node) (t : List ℕ) (S : St
 -- ---- the answer
 
 module _ (vs : List Verb) where
-  handed-choose : (b : Bool) (x y : Reading syntax.Request) (u v : Request) → u ≡ handedOut vs x → v ≡ handedOut vs y → choose b u v ≡ handedOut vs (choose b x y)
+  handed-choose : (b : Bool) (x y : Reading syntax.Request) (u v : Request) → u ≡ handedOut vs x → v ≡ handedOut vs y
+      → choose b u v ≡ handedOut vs (choose b x y)
   unfolding choose
   handed-choose true x y u v p q = p
   handed-choose false x y u v p q = q
@@ -148,14 +160,20 @@ module _ {cs : List Constant} {vs : List Verb} {ks sg : List ℕ} (X : Tables cs
     low : Small node
     low = node-small vs node sound (fits-low cs (demandsIn node vs) (S .regular) (T-of _ (state-fits cs t (demandsIn node vs) S)))
 
-    judged-node : judgedIn (treeIn sg s maxDepth firstNodeAt) ≡ choose (safeRequest node) (judgedSafe (marked (free node) none) (marked (binders node) (marked (free node) none))) judgedUnsafe
+    judged-node : judgedIn (treeIn sg s maxDepth firstNodeAt) ≡ choose (safeRequest node)
+        (judgedSafe (marked (free node) none) (marked (binders node) (marked (free node) none))) judgedUnsafe
     judged-node = ap judgedIn (tree-is X s maxDepth firstNodeAt) ∙ judged-is node low
 
     accepted-is : acceptedIn s (judgedIn (treeIn sg s maxDepth firstNodeAt)) t ≡ handedOut vs (safely cs vs s (requestOf cs vs s) e)
     unfolding acceptedIn safely handedOut
     accepted-is =
         by-bool (safeRequest node)
-        (λ o. rw (judged-node ∙ choose-true _ _ o, choose-true (got (requestOf cs vs s) e) (refused 7 firstNodeAt) o, ← kinds-are cs vs node t S sound o, ← frees-are (free node)) (choose-true _ _ refl))
+        (λ o. rw (
+          judged-node ∙ choose-true _ _ o,
+          choose-true (got (requestOf cs vs s) e) (refused 7 firstNodeAt) o,
+          ← kinds-are cs vs node t S sound o,
+          ← frees-are (free node),
+        ) (choose-true _ _ refl))
         (λ o. rw (judged-node ∙ choose-false _ _ o, choose-false (got (requestOf cs vs s) e) (refused 7 firstNodeAt) o) (choose-false _ _ refl))
 
   ended-is : (g : Got) (x : Reading Demands) → Reads cs g x → checkNode cs vs s maxDepth noDemands firstNodeAt ≡ x
@@ -167,8 +185,14 @@ module _ {cs : List Constant} {vs : List Verb} {ks sg : List ℕ} (X : Tables cs
       choose-true _ _ (eq-eqb (g .no) 0 (r .0))
       ∙ ap (λ (p : ℕ). choose (eqb p (length s)) (acceptedIn s (judgedIn (treeIn sg s maxDepth firstNodeAt)) (g .of)) (refusal 3 p)) (r .1)
       ∙ by-bool (eqb e (length s))
-      (λ o. rw (choose-true (acceptedIn s (judgedIn (treeIn sg s maxDepth firstNodeAt)) (g .of)) (refusal 3 e) o, choose-true (got (requestOf cs vs s) e) (refused 3 e) o) (accepted-is e (g .of) S (c .sound)))
-      (λ o. rw (choose-false (acceptedIn s (judgedIn (treeIn sg s maxDepth firstNodeAt)) (g .of)) (refusal 3 e) o, choose-false (got (requestOf cs vs s) e) (refused 3 e) o))
+      (λ o. rw (
+        choose-true (acceptedIn s (judgedIn (treeIn sg s maxDepth firstNodeAt)) (g .of)) (refusal 3 e) o,
+        choose-true (got (requestOf cs vs s) e) (refused 3 e) o,
+      ) (accepted-is e (g .of) S (c .sound)))
+      (λ o. rw (
+        choose-false (acceptedIn s (judgedIn (treeIn sg s maxDepth firstNodeAt)) (g .of)) (refusal 3 e) o,
+        choose-false (got (requestOf cs vs s) e) (refused 3 e) o,
+      ))
   ended-is g (refused n p) r q = choose-false _ _ (ne-eqb (g .no) 0 (λ z. r .2 (sym (r .0) ∙ z))) ∙ rw (r .0, r .1)
 
   whole-is : wholeIn ks sg s ≡ handedOut vs (requestFrom cs vs s)
@@ -180,8 +204,8 @@ module _ {cs : List Constant} {vs : List Verb} {ks sg : List ℕ} (X : Tables cs
 
   -- THE LAW
   pub request-is : requestIn ks sg s ≡ handedOut vs (readRequest cs vs s)
-  unfolding requestIn readRequest headed handedOut
-  request-is = handed-choose vs (versionThere s) _ _ _ _ (handed-choose vs (lengthRight s) _ _ _ _ whole-is refl) refl
+  unfolding requestIn computedRequest headed handedOut
+  request-is = rw (plainly cs vs s) (handed-choose vs (versionThere s) _ _ _ _ (handed-choose vs (lengthRight s) _ _ _ _ whole-is refl) refl)
 
 -- ---- as the code takes it
 

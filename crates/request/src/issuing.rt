@@ -103,7 +103,8 @@ fn parts(
     m: [u8; CONSTANTS],
 ) -> [u8; CONSTANTS]
     requires { ⌜ (length (now s) ≤ longest) × (n < 256) ⌝ }
-    ensures { λ r. ⌜ r ≡ marked (issuersAll (nodesBy (treeIn (now (sg .entry)) (now (s .entry)) d) (endIn (now (sg .entry)) (now (s .entry)) d) n at) (worldBy (now (ks .entry)))) m ⌝ }
+    ensures { λ r. ⌜ r ≡ marked (issuersAll (nodesBy (treeIn (now (sg .entry)) (now (s .entry)) d) (endIn (now (sg .entry)) (now (s .entry)) d) n at)
+        (worldBy (now (ks .entry)))) m ⌝ }
 {
     if n == 0 {
         return m;

@@ -141,7 +141,8 @@ fn whole(ks: &[u8], sg: &[u8], s: &[u8]) -> Request
 
 // The request s under a policy with the kinds ks of its constants and the rows sg of its verbs (crate phrases, specs/Tables).
 pub fn read(ks: &[u8], sg: &[u8], s: &[u8]) -> Request
-    ensures meant { λ r. ⌜ ((cs : List Constant) (vs : List Verb) → Tables cs vs (now (ks .entry)) (now (sg .entry)) → r ≡ handedOut vs (readRequest cs vs (now (s .entry)))) ⌝ }
+    ensures meant { λ r. ⌜ ((cs : List Constant) (vs : List Verb) → Tables cs vs (now (ks .entry)) (now (sg .entry))
+        → r ≡ handedOut vs (readRequest cs vs (now (s .entry)))) ⌝ }
     ensures short { λ r. ⌜ (r .refusal ≡ 0 → length (now (s .entry)) ≤ longest) ⌝ }
 {
     if !policy::slices::version_there(s) {
@@ -156,7 +157,8 @@ pub fn read(ks: &[u8], sg: &[u8], s: &[u8]) -> Request
 // "every issuer in the request's says nodes": 1 for each of the 255 possible constants that is one. A variable brings in all principals.
 pub fn issuers(ks: &[u8], sg: &[u8], s: &[u8]) -> [u8; limits::CONSTANTS]
     requires { ⌜ length (now s) ≤ longest ⌝ }
-    ensures { λ r. ⌜ ((W : World) → Tables (W .constants) (W .verbs) (now (ks .entry)) (now (sg .entry)) → (p : ℕ) → p < 255 → getD r p 0 ≡ cond (member p (requests.issuers (nodeAt (W .verbs) (now (s .entry)) maxDepth firstNodeAt) W)) 1 0) ⌝ }
+    ensures { λ r. ⌜ ((W : World) → Tables (W .constants) (W .verbs) (now (ks .entry)) (now (sg .entry)) → (p : ℕ) → p < 255
+        → getD r p 0 ≡ cond (member p (requests.issuers (nodeAt (W .verbs) (now (s .entry)) maxDepth firstNodeAt) W)) 1 0) ⌝ }
 {
     issuing::node(ks, sg, s, DEPTH, FIRST_NODE, [0; limits::CONSTANTS])
 }

@@ -7,16 +7,26 @@ use native.Mathlib.Omega.{arith}
 use lib.ListN.{length}
 use lib.Dec.{T, ltb, leb}
 use borrow.Author.Tests.{leb-true}
 use Rattle.model.specs.Syntax.{Constant, Verb, Node, Nodes, says, test, allOf, anyOf, non, exists, end, more}
 use Rattle.model.specs.Kinds.{Demands, noDemands, joined, demandsIn, demandsAll, fitting}
-use Rattle.model.specs.Bytes.{byteAt, Reading, got}
-use Rattle.model.specs.Readings.{exprAt, factAt, factEnd, constraintAt, Sort, saysSort, testSort, allSort, anySort, notSort, existsSort, noSort, sortOf, endsBy, nodesBy, endBy, nodeEnd, nodeBy, nodeAt}
+use Rattle.model.specs.Bytes.{byteAt, choose, both, Reading, got}
+use Rattle.model.specs.Readings.{exprAt, factAt, factEnd, constraintAt, Sort, saysSort, testSort, allSort, anySort, notSort, existsSort, noSort}
+use Rattle.model.specs.Readings.{sortOf, endsBy, nodesBy, endBy, nodeEnd, nodeBy, nodeAt}
 use Rattle.model.specs.Forms.{Form, ends, broken, noVerb, factForm}
 use Rattle.model.specs.Nodes.{partsForm, variableForm, checkParts, fitted, checkSays, checkTest, checkBy, checkNode}
 use Rattle.model.specs.Records.{Arity}
 use Rattle.model.proofs.ReadFacts.{never, choose-yes, choose-no, andThen-got, levels-arity}
-use Rattle.wire.proofs.Reading.{both-first, both-second}
-use Rattle.phrases.proofs.Ends.{form-ends}
+use Rattle.model.proofs.ReaderEnds.{form-ends}
+
+both-first : (a b : Bool) → both a b ≡ true → a ≡ true
+unfolding both choose
+both-first true b e = refl
+both-first false b e = e
+
+both-second : (a b : Bool) → both a b ≡ true → b ≡ true
+unfolding both choose
+both-second true b e = e
+both-second false b e = absurd (let z : _≡_ {A = ℕ} 0 1 = cc in omega arith)
 
 -- ---- demands, one after another
 
@@ -63,10 +73,11 @@ module _ (vs : List Verb) where
     pub sound : SoundAll ns
 
   -- what `h` accepts is a node `f`, which ends at `g`
-  abbrev Checks : (Demands → ℕ → Reading Demands) → (ℕ → Node) → (ℕ → ℕ) → Type 0
+  abbrev pub Checks : (Demands → ℕ → Reading Demands) → (ℕ → Node) → (ℕ → ℕ) → Type 0
   Checks h f g = (D : Demands) (at : ℕ) (E : Demands) (e : ℕ) → h D at ≡ got E e → Checked D E e (f at) (g at)
 
-  parts-checked : (h : Demands → ℕ → Reading Demands) (f : ℕ → Node) (g : ℕ → ℕ) → Checks h f g → (n : ℕ) (D : Demands) (at : ℕ) (E : Demands) (e : ℕ) → checkParts h n D at ≡ got E e
+  parts-checked : (h : Demands → ℕ → Reading Demands) (f : ℕ → Node) (g : ℕ → ℕ) → Checks h f g → (n : ℕ) (D : Demands) (at : ℕ) (E : Demands) (e : ℕ)
+      → checkParts h n D at ≡ got E e
       → CheckedAll D E e (nodesBy f g n at) (endsBy g n at)
   unfolding checkParts nodesBy endsBy
   parts-checked h f g k zero D at E e r = record { to = let q : e ≡ at = cc in q; asked = let q : E ≡ D = cc in q ∙ joined-none D; sound = tt }
@@ -74,10 +85,12 @@ module _ (vs : List Verb) where
       let w = andThen-got (h D at) (checkParts h n) E e r in
       let a = k D at (w .0) (w .1) (w .2) in
       let b = parts-checked h f g k n (w .0) (w .1) E e (w .3) in
-      let c : CheckedAll (w .0) E e (nodesBy f g n (g at)) (endsBy g n (g at)) = subst (λ (p : ℕ). CheckedAll (w .0) E e (nodesBy f g n p) (endsBy g n p)) (a .to) b in
+      let c : CheckedAll (w .0) E e (nodesBy f g n (g at)) (endsBy g n (g at)) =
+      subst (λ (p : ℕ). CheckedAll (w .0) E e (nodesBy f g n p) (endsBy g n p)) (a .to) b in
       record {
         to = c .to;
-        asked = c .asked ∙ ap (λ (F : Demands). joined F (demandsAll (nodesBy f g n (g at)) vs)) (a .asked) ∙ joined-assoc D (demandsIn (f at) vs) (demandsAll (nodesBy f g n (g at)) vs);
+        asked = c .asked ∙ ap (λ (F : Demands). joined F (demandsAll (nodesBy f g n (g at)) vs)) (a .asked)
+            ∙ joined-assoc D (demandsIn (f at) vs) (demandsAll (nodesBy f g n (g at)) vs);
         sound = (a .sound, c .sound);
       }
 
@@ -110,7 +123,8 @@ module _ (vs : List Verb) where
     T-true true t = refl
     T-true false t = absurd t
 
-    by-checked : (k : Sort) (h : Demands → ℕ → Reading Demands) (f : ℕ → Node) (g : ℕ → ℕ) → Checks h f g → (D : Demands) (at : ℕ) (E : Demands) (e : ℕ) → checkBy cs vs s k h D at ≡ got E e
+    by-checked : (k : Sort) (h : Demands → ℕ → Reading Demands) (f : ℕ → Node) (g : ℕ → ℕ) → Checks h f g → (D : Demands) (at : ℕ) (E : Demands) (e : ℕ)
+        → checkBy cs vs s k h D at ≡ got E e
         → Checked D E e (nodeBy vs s k f g at) (endBy vs s k g at)
     unfolding checkBy nodeBy endBy partsForm variableForm
     by-checked saysSort h f g c D at E e r = says-checked (factForm vs s (length s) (at + 3)) D at E e refl r
@@ -134,4 +148,5 @@ module _ (vs : List Verb) where
     pub node-checked : (d : ℕ) → Checks (checkNode cs vs s d) (nodeAt vs s d) (nodeEnd vs s d)
     unfolding checkNode nodeAt nodeEnd
     node-checked zero D at E e r = absurd (never 3 at e E r)
-    node-checked (suc d) D at E e r = by-checked (sortOf (byteAt s at)) (checkNode cs vs s d) (nodeAt vs s d) (nodeEnd vs s d) (node-checked d) D at E e (choose-no _ _ 3 at E e r .1)
+    node-checked (suc d) D at E e r = by-checked (sortOf (byteAt s at)) (checkNode cs vs s d) (nodeAt vs s d) (nodeEnd vs s d) (node-checked d) D at E e
+        (choose-no _ _ 3 at E e r .1)
