@@ -1,0 +1,51 @@
+-- The line is that of the outcome's report, and the contract of `decide` says that this is the model's.
+use borrow.Author.Needs.{needs}
+use mathlib.Core.Path.{_≡_, sym, ap, _∙_}
+use mathlib.Core.List.{List, []}
+use Prim.Native.Nat.{ℕ}
+use lib.ListN.{replicate}
+use Rattle.model.specs.Decision.{decision}
+use Rattle.demands.specs.Demands.{Call}
+use Rattle.outcome.specs.declared.Outcome.{Outcome}
+use Rattle.outcome.specs.Reported.{reportOf}
+use Rattle.outcome.specs.Line.{lineOf}
+use Rattle.outcome.proofs.Lines.{any-buffers}
+use Rattle.desk.proofs.answer.Statement.{statement}
+use Rattle.desk.proofs.answer.Tie as tie
+use Rattle.desk.proofs.answer.Reads as reads
+use Rattle.desk.proofs.answer.Lts as lts
+use Rattle.engine.proofs.decide.Reads as decide-reads
+use Rattle.outcome.proofs.line.Reads as line-reads
+
+-- the line of a call's outcome is that of the model's report
+line-of : (policy request facts answers : List ℕ) (o : Outcome) (f a : List ℕ) → Call policy request facts answers (reportOf o f a)
+    → lineOf (reportOf o [] []) ≡ lineOf (decision policy request facts answers)
+line-of policy request facts answers o f a e = sym (any-buffers o f a) ∙ ap lineOf e
+
+slice-aggregate-decide : tie.Need-slice-aggregate-decide
+slice-aggregate-decide c = search needs
+
+slice-aggregate-decide-2 : tie.Need-slice-aggregate-decide-2
+slice-aggregate-decide-2 c = search needs
+
+decide-requires : tie.Need-decide-requires
+decide-requires c κs = search needs
+
+line-requires : tie.Need-line-requires
+line-requires c κs = search needs
+
+returns : tie.Need-returns
+returns c =
+    let d = c .before .before .before .before .decide in
+    let l = c .line .ensures in
+    (l .0, l .1 .0 ∙ line-of _ _ (replicate 65536 0) (replicate 1024 0) (d .result) _ _ (d .ensures))
+
+pub answer-spec : {M : Type 1} → statement M
+answer-spec =
+    tie.close
+    (tie.spec
+    slice-aggregate-decide
+    slice-aggregate-decide-2
+    decide-requires
+    line-requires
+    returns)
