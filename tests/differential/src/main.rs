@@ -21,17 +21,32 @@ fn compare(policy: &[u8], request: &[u8], facts: &[u8], answers: &[u8], expected
     None
 }
 
-/// The labels of an accepted policy are the parts of its bytes that hold them; of another they are empty.
+/// A principal and a thing of one label: the contract speaks of the label's bytes, which are alike, and only the offset tells the two apart.
+const ONE_LABEL: [u8; 17] = [1, 0, 0, 0, 12, 0, 2, 2, 1, b'A', 2, 2, b'A', 0, 0, 0, 0];
+
+/// Each label of an accepted policy is that part of its bytes which holds it, and not another with equal bytes; of another policy it is empty.
 fn labels(policy: &[u8]) -> Option<String> {
     let accepted = read::policy(policy).ok();
     for c in 0..256 {
-        let expected = accepted.as_ref().map_or(&[][..], |p| p.label(c));
-        match engine::label(policy, c as u32) {
-            (Some(at), n) if policy[at..at + n] == *expected => {}
-            _ => return Some(format!("the label of constant {c}")),
+        let expected = accepted.as_ref().and_then(|p| p.label(c));
+        let right = match (engine::label(policy, c as u32), expected) {
+            ((Some(at), n), Some(part)) => (at..at + n) == part,
+            ((Some(_), n), None) => n == 0,
+            _ => false,
+        };
+        if !right {
+            return Some(format!("the label of constant {c}, or its place"));
         }
     }
     None
+}
+
+/// The labels of `ONE_LABEL`, which stand at two places.
+fn one_label() -> Option<String> {
+    match read::policy(&ONE_LABEL) {
+        Ok(p) if p.label(0) == Some(9..10) && p.label(1) == Some(12..13) => labels(&ONE_LABEL),
+        _ => Some("a principal and a thing of one label are not read".to_string()),
+    }
 }
 
 fn main() {
@@ -58,6 +73,7 @@ fn main() {
             tell(format!("{file}: case {} ({name})", i + 1), compare(&c.policy, &c.request, &c.facts, &c.answers, &c.expected).or(labels(&c.policy)));
         }
     }
+    tell("two constants of one label".to_string(), one_label());
     println!("differential: {count} generated cases, seeds {seed} to {}", seed + count.max(1) - 1);
     for s in seed..seed + count {
         let c = generate::case(s, sizes);

@@ -51,17 +51,19 @@ pub enum Value {
 #[derive(Debug, Clone)]
 pub struct Policy {
     pub constants: Vec<(u8, Value)>,
+    /// the first byte of each constant
+    pub starts: Vec<usize>,
     /// the kinds of the parameters of verb 0, 1, ..
     pub verbs: Vec<Vec<u8>>,
     pub assertions: Vec<Assertion>,
 }
 
 impl Policy {
-    /// The label of a principal or thing, empty for other kinds and numbers not present.
-    pub fn label(&self, constant: usize) -> &[u8] {
+    /// Where the label of a principal or thing stands in the policy's bytes, behind length and kind; none for other kinds and numbers not present.
+    pub fn label(&self, constant: usize) -> Option<std::ops::Range<usize>> {
         match self.constants.get(constant) {
-            Some((_, Value::Label(l))) => l,
-            _ => &[],
+            Some((_, Value::Label(l))) => Some(self.starts[constant] + 2..self.starts[constant] + 2 + l.len()),
+            _ => None,
         }
     }
 }
@@ -447,12 +449,14 @@ pub fn policy(s: &[u8]) -> Result<Policy, Refusal> {
     header(s)?;
     let mut at = 5;
     let mut constants: Vec<(u8, Value)> = vec![];
+    let mut starts = vec![];
     for _ in 0..list(s, &mut at, 1, 255)? {
         let (c, end) = constant(s, at).map_err(|f| f.at(at))?;
         if constants.contains(&c) {
             return Err((4, at));
         }
         constants.push(c);
+        starts.push(at);
         at = end;
     }
     let mut verbs = vec![vec![PRINCIPAL]];
@@ -482,7 +486,7 @@ pub fn policy(s: &[u8]) -> Result<Policy, Refusal> {
     if at != s.len() {
         return Err((3, at));
     }
-    Ok(Policy { constants, verbs, assertions })
+    Ok(Policy { constants, starts, verbs, assertions })
 }
 
 /// The node at `at`, at this depth: the node and where it ends.
