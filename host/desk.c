@@ -1,6 +1,10 @@
-/* A release desk's host to start from: desk POLICY REQUEST decides the request under the policy and says what came of it, in words. */
+/*
+ * A release desk's host to start from: desk [--facts] POLICY REQUEST decides the request under the policy and says what came of it, in words;
+ * with --facts also every derived fact, by round. Exit status: 0 allow, 1 deny, 2 refused or an error, so that `desk P Q && release` is right.
+ */
 #include <stdio.h>
 #include <stdlib.h>
+#include <string.h>
 
 #include "secpal.h"
 
@@ -27,7 +31,7 @@ static size_t load(const char *path, uint8_t *to, size_t room)
     size_t n = f ? fread(to, 1, room, f) : 0;
     if (!f || ferror(f) || fgetc(f) != EOF) {
         fprintf(stderr, "%s: cannot be read, or longer than %zu bytes\n", path, room);
-        exit(2);
+        exit(2); /* no answer */
     }
     fclose(f);
     return n;
@@ -35,60 +39,96 @@ static size_t load(const char *path, uint8_t *to, size_t room)
 
 static unsigned u16_at(const uint8_t *s, size_t at) { return s[at] * 256u + s[at + 1]; }
 
-/* Where item n of the list that is led by the count at `at` stands; past its last item: where the list ends. The policy is accepted. */
-static size_t item(size_t at, unsigned n)
+/* Where the items of an accepted policy stand, asked once: the labels are parts of its bytes. */
+static uint32_t constants[SECPAL_CONSTANTS], verbs[SECPAL_VERBS];
+
+static void look_up_names(void)
 {
-    unsigned count = u16_at(policy, at);
-    size_t p = at + 2;
-    for (unsigned i = 0; i < n && i < count; i++)
-        p += 1u + policy[p];
-    return p;
+    secpal_constants(policy, policy_len, constants, SECPAL_CONSTANTS);
+    secpal_verbs(policy, policy_len, verbs, SECPAL_VERBS);
 }
 
-/* A constant: its label, or the number of a day or quantity. */
+static unsigned days_of_month(unsigned year, unsigned month)
+{
+    static const unsigned char days[] = {0, 31, 28, 31, 30, 31, 30, 31, 31, 30, 31, 30, 31};
+    return days[month] + (month == 2 && year % 4 == 0); /* 2000 to 2099: every fourth year is a leap year */
+}
+
+/* A day's number as its date: day 0 is 2000-01-01. */
+static void print_day(unsigned long day)
+{
+    unsigned year = 2000, month = 1;
+    for (unsigned long n; day >= (n = year % 4 ? 365 : 366); year++)
+        day -= n;
+    for (unsigned n; day >= (n = days_of_month(year, month)); month++)
+        day -= n;
+    printf("%04u-%02u-%02lu", year, month, day + 1);
+}
+
+static unsigned long u32_at(const uint8_t *s, size_t at) { return (unsigned long)u16_at(s, at) << 16 | u16_at(s, at + 2); }
+
+/* A constant: its label, a day's date, or a quantity. An item is its length, its kind, its value. */
 static void print_constant(unsigned c)
 {
-    secpal_slice label;
-    secpal_label(policy, policy_len, c, &label);
-    if (label.len) {
-        printf("%.*s", (int)label.len, (const char *)label.data);
-        return;
+    const uint8_t *item = policy + constants[c];
+    switch (item[1]) {
+    case SECPAL_DAY:
+        print_day(u32_at(item, 2));
+        break;
+    case SECPAL_QUANTITY:
+        printf("%lu", u32_at(item, 2));
+        break;
+    default:
+        printf("%.*s", item[0] - 1, (const char *)item + 2);
     }
-    size_t p = item(5, c);
-    printf("%s%lu", policy[p + 1] == 3 ? "day " : "", (unsigned long)u16_at(policy, p + 2) << 16 | u16_at(policy, p + 4));
 }
 
-static unsigned arity(unsigned verb)
-{
-    return verb == 0 ? 1 : policy[item(item(5, SECPAL_CONSTANTS), verb - 1) + 1];
-}
+/* A verb's item is its length, its arity, a kind for each parameter, its label. Verb 0 is built in. */
+static unsigned arity(unsigned verb) { return verb == 0 ? 1 : policy[verbs[verb - 1] + 1]; }
 
 static void print_verb(unsigned verb)
 {
     if (verb == 0) {
-        printf("can act as"); /* verb 0 is built in */
+        printf("can act as");
         return;
     }
-    size_t p = item(item(5, SECPAL_CONSTANTS), verb - 1);
-    unsigned kinds = policy[p + 1];
-    printf("%.*s", (int)(policy[p] - 1u - kinds), (const char *)policy + p + 2 + kinds);
+    const uint8_t *item = policy + verbs[verb - 1];
+    printf("%.*s", item[0] - 1 - item[1], (const char *)item + 2 + item[1]);
 }
 
 /* "Works says North can say Otto is-fitter" */
 static void print_fact(const uint8_t *r)
 {
-    print_constant(r[2]);
-    printf(r[3] ? " says " : " says, depth 0, ");
-    for (unsigned i = 0; i < r[4]; i++) {
-        print_constant(r[5 + 2 * i]);
-        printf(r[6 + 2 * i] ? " can say " : " can say, depth 0, ");
+    print_constant(r[SECPAL_RECORD_ISSUER]);
+    printf(r[SECPAL_RECORD_DEPTH] ? " says " : " says, depth 0, ");
+    for (unsigned i = 0; i < r[SECPAL_RECORD_NEST]; i++) {
+        print_constant(r[SECPAL_RECORD_SPEAKERS + 2 * i]);
+        printf(r[SECPAL_RECORD_SPEAKERS + 2 * i + 1] ? " can say " : " can say, depth 0, ");
     }
-    print_constant(r[11]);
+    print_constant(r[SECPAL_RECORD_SUBJECT]);
     printf(" ");
-    print_verb(r[12]);
-    for (unsigned i = 0; i < arity(r[12]); i++) {
+    print_verb(r[SECPAL_RECORD_VERB]);
+    for (unsigned i = 0; i < arity(r[SECPAL_RECORD_VERB]); i++) {
         printf(" ");
-        print_constant(r[13 + i]);
+        print_constant(r[SECPAL_RECORD_PARAMETERS + i]);
+    }
+}
+
+/* The facts by round. They stand in the order of their bytes 2 to 15, so they are counted by round first, and then laid out. */
+static void print_facts(uint32_t count, uint32_t rounds)
+{
+    static uint32_t next[SECPAL_RECORDS + 2], order[SECPAL_RECORDS];
+    for (uint32_t i = 0; i < count; i++)
+        next[u16_at(facts, (size_t)SECPAL_RECORD * i + SECPAL_RECORD_ROUND) + 1]++;
+    for (uint32_t round = 1; round <= rounds; round++)
+        next[round] += next[round - 1];
+    for (uint32_t i = 0; i < count; i++)
+        order[next[u16_at(facts, (size_t)SECPAL_RECORD * i + SECPAL_RECORD_ROUND)]++] = i;
+    for (uint32_t i = 0; i < count; i++) {
+        const uint8_t *f = facts + (size_t)SECPAL_RECORD * order[i];
+        printf("  round %u: ", u16_at(f, SECPAL_RECORD_ROUND));
+        print_fact(f);
+        printf("\n");
     }
 }
 
@@ -158,23 +198,26 @@ static size_t print_node(size_t at)
 
 static void print_answer(const uint8_t *a)
 {
-    printf("  answer:");
     unsigned bound = 0;
     for (unsigned v = 0; v < SECPAL_VARIABLES; v++) {
         if (a[v] == SECPAL_UNBOUND)
             continue;
-        printf("%s v%u = ", bound++ ? "," : "", v);
+        printf("%s v%u = ", bound++ ? "," : "  answer:", v);
         print_constant(a[v]);
     }
-    printf(bound ? "\n" : " it holds as it stands\n");
+    if (bound)
+        printf("\n");
 }
+
+enum { EXIT_ALLOW = 0, EXIT_DENY = 1, EXIT_NO_ANSWER = 2 };
 
 int main(int argc, char **argv)
 {
-    if (argc != 3)
-        return fprintf(stderr, "usage: %s POLICY REQUEST\n", argv[0]), 2;
-    policy_len = load(argv[1], policy, sizeof policy);
-    request_len = load(argv[2], request, sizeof request);
+    int with_facts = argc == 4 && strcmp(argv[1], "--facts") == 0;
+    if (argc != 3 + with_facts)
+        return fprintf(stderr, "usage: %s [--facts] POLICY REQUEST\n", argv[0]), EXIT_NO_ANSWER;
+    policy_len = load(argv[1 + with_facts], policy, sizeof policy);
+    request_len = load(argv[2 + with_facts], request, sizeof request);
 
     secpal_report r = secpal_decide(policy, policy_len, request, request_len, facts, sizeof facts, answers, sizeof answers);
 
@@ -183,17 +226,20 @@ int main(int argc, char **argv)
         if (r.side != SECPAL_SIDE_NONE)
             printf(",%s, at byte %llu", sides[r.side], (unsigned long long)r.place);
         printf("\n");
-        return 1;
+        return EXIT_NO_ANSWER;
     }
-    print_node(9);
-    printf(": %s\n", r.decision == SECPAL_ALLOW ? "allowed" : "denied");
-    for (uint64_t i = 0; i < r.answers; i++)
-        print_answer(answers + SECPAL_ANSWER * i);
-    printf("  by %u facts in %u rounds:\n", (unsigned)r.facts, (unsigned)r.rounds);
-    for (const uint8_t *f = facts; f < facts + (size_t)SECPAL_RECORD * r.facts; f += SECPAL_RECORD) {
-        printf("  round %u: ", f[0] * 256u + f[1]);
-        print_fact(f);
+    look_up_names();
+    print_node(SECPAL_REQUEST_NODE);
+    if (r.decision == SECPAL_ALLOW) {
+        printf(": allowed\n");
+    } else {
+        printf(": denied, it does not follow from the policy on ");
+        print_day(u32_at(request, SECPAL_REQUEST_TODAY));
         printf("\n");
     }
-    return 0;
+    for (uint64_t i = 0; i < r.answers; i++)
+        print_answer(answers + SECPAL_ANSWER * i);
+    if (with_facts)
+        print_facts(r.facts, r.rounds);
+    return r.decision == SECPAL_ALLOW ? EXIT_ALLOW : EXIT_DENY;
 }

@@ -1,4 +1,18 @@
-/* The engine's interface for C. Link with libengine.a (`rt staticlib engine` writes it to target/staticlib). */
+/*
+ * The engine's interface for C. Link with build/libengine.a, which scripts/library builds, or, where it is installed, with what
+ * `pkg-config --cflags --libs secpal` says.
+ *
+ * docs/FORMAT.md has the layout of policies, requests, records and answers to the byte, and every refusal with its condition and place.
+ *
+ * What a call costs: each call but secpal_version reads the policy once, from front to back: about 0.001 ms for the belt policy of 114 bytes,
+ * 0.5 ms for one of 6,000 bytes with 255 constants. secpal_reach and secpal_decide then read the request. secpal_decide derives, which takes as
+ * long as the policy makes it take: from 0.02 ms to many minutes. NO CALL HAS A LIMIT OF TIME. Every call ends, by proof, but a host that takes
+ * policies from strangers should run secpal_decide where it can give it up, in a process of its own. docs/SPEED.md has figures.
+ *
+ * In a debugger: the archive is optimized code. It has the names of its functions, but no line numbers, no variables and no unwind tables
+ * (.eh_frame). At a breakpoint on an entry point the back trace is whole, and `finish` works; where a debugger, a profiler or a sanitizer looks at
+ * the stack inside a call, the trace names functions of the engine and ends there, before the caller.
+ */
 #ifndef SECPAL_H
 #define SECPAL_H
 
@@ -29,6 +43,26 @@ enum {
     SECPAL_ANSWER = 8,        /* bytes of an answer */
     SECPAL_UNBOUND = 255      /* in an answer: this variable is not free */
 };
+
+/* The kinds of constants and of a verb's parameters. */
+enum { SECPAL_PRINCIPAL = 1, SECPAL_THING = 2, SECPAL_DAY = 3, SECPAL_QUANTITY = 4 };
+
+/* The fields of a record in `facts`, by offset. A constant is one byte, its number; an unlimited depth is 1; unused bytes are 0. */
+enum {
+    SECPAL_RECORD_ROUND = 0,      /* 2 bytes, big-endian: the round in which the fact first appears */
+    SECPAL_RECORD_ISSUER = 2,     /* who says it */
+    SECPAL_RECORD_DEPTH = 3,      /* at which depth */
+    SECPAL_RECORD_NEST = 4,       /* how many speakers, 0 to 3 */
+    SECPAL_RECORD_SPEAKERS = 5,   /* three pairs of speaker and depth, outermost first: "speaker can say, depth, .." */
+    SECPAL_RECORD_SUBJECT = 11,
+    SECPAL_RECORD_VERB = 12,
+    SECPAL_RECORD_PARAMETERS = 13 /* three */
+};
+
+/* An answer in `answers` is SECPAL_VARIABLES bytes: byte v is the number of the constant for variable v, or SECPAL_UNBOUND. */
+
+/* The fields of a request, by offset, after the version and the length. */
+enum { SECPAL_REQUEST_TODAY = 5, SECPAL_REQUEST_NODE = 9 };
 
 /* secpal_report.decision */
 enum { SECPAL_REFUSED = 0, SECPAL_ALLOW = 1, SECPAL_DENY = 2 };
@@ -69,7 +103,8 @@ typedef struct {
  *                   ascending order, a constant's number for each of the eight variables, 255 where one is not free, and 0 after them
  *
  * No pointer may be NULL, also where its length is 0; `facts` and `answers` must not overlap each other or an input. Nothing is kept
- * after the call, and calls at the same time on different buffers do not disturb each other. The call takes below 4 MB of stack.
+ * after the call, and calls at the same time on different buffers do not disturb each other. It takes a fixed amount of stack,
+ * below 1,100,000 bytes on all that was tried (tests/stack measures it on each check), and no other memory.
  */
 secpal_report secpal_decide(const uint8_t *policy, size_t policy_len, const uint8_t *request, size_t request_len,
                             uint8_t *facts, size_t facts_len, uint8_t *answers, size_t answers_len);
@@ -86,6 +121,38 @@ typedef struct {
  * policy and label may not be NULL.
  */
 void secpal_label(const uint8_t *policy, size_t policy_len, uint32_t constant, secpal_slice *label);
+
+/*
+ * Where each constant's item stands in the policy: offsets[i] becomes the offset of the length byte of constant i, for as many constants as
+ * offsets_len items have room for; the others stay as they were. Returns the count of constants, 0 for a policy that is not accepted (offsets
+ * are then as they were). One call in the place of a secpal_label for each constant: an item is its length byte, its kind, its value. With
+ * offsets_len 0 it counts, and says whether the policy is accepted. offsets may not be NULL, also where offsets_len is 0.
+ */
+uint32_t secpal_constants(const uint8_t *policy, size_t policy_len, uint32_t *offsets, size_t offsets_len);
+
+/* The same for the verbs: offsets[i] is where verb i + 1 stands, an item being its length byte, its arity, its kinds, its label. */
+uint32_t secpal_verbs(const uint8_t *policy, size_t policy_len, uint32_t *offsets, size_t offsets_len);
+
+/*
+ * The number of the principal or thing (kind SECPAL_PRINCIPAL or SECPAL_THING) with this label, or SECPAL_NOT_FOUND: there is none, the kind is
+ * another one, or the policy is not accepted.
+ */
+uint32_t secpal_find(const uint8_t *policy, size_t policy_len, uint32_t kind, const uint8_t *label, size_t label_len);
+#define SECPAL_NOT_FOUND UINT32_MAX
+
+/*
+ * Whose words count for this request: marks[i] becomes 1 if constant i is a principal in the request's reach, and 0 otherwise, for all of
+ * marks_len. The reach is the least set of principals that has every issuer in the request's says nodes and, for each assertion issued in the
+ * set, the outermost speaker of a nested head and the subject of a flat head with verb 0; where one of these is a variable, all principals join.
+ * Nobody outside can change a byte of the decision: whatever statements they add, result and both buffers stay the same
+ * (demand 3 of docs/PROOFS.md). No derivation is done. With a refusal from the input (1 to 7) the report's refusal, side and place are those
+ * that secpal_decide would give, and the marks are as they were; otherwise all fields of the report are 0, and the marks are written.
+ */
+secpal_report secpal_reach(const uint8_t *policy, size_t policy_len, const uint8_t *request, size_t request_len,
+                           uint8_t *marks, size_t marks_len);
+
+/* The library's version: major * 65536 + minor * 256 + patch. */
+uint32_t secpal_version(void);
 
 #ifdef __cplusplus
 }

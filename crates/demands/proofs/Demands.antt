@@ -4,17 +4,18 @@ use mathlib.Core.Logic.{_↔_}
 use mathlib.Core.List.{List}
 use Prim.Native.Nat.{ℕ}
 use native.Mathlib.Omega.{arith}
-use Rattle.model.specs.Syntax.{Policy, Request, worldOf}
+use Rattle.model.specs.Syntax.{Assertion, Policy, Request, worldOf}
 use Rattle.model.specs.Rules.{Rule}
 use Rattle.model.specs.Meant.{Outcome, AtMost, fullTable, fullAnswers, allListed}
 use Rattle.model.specs.Deciding.{countingIn}
 use Rattle.model.specs.Decision.{allow, deny, refusal, Report, report, capacity, room, word, cleared, reported, decision}
-use Rattle.model.specs.Theorems.{Inputs, DerivableIn, AnswerIn, IsDecision, ListedIn, MeantBy}
+use Rattle.model.specs.Theorems.{Inputs, DerivableIn, AnswerIn, IsDecision, ListedIn, MeantBy, IssuedOutside}
 use Rattle.model.proofs.ClosureFacts.{derives→within, first-unique}
 use Rattle.model.proofs.Theorems as M
 use Rattle.demands.specs.Demands as Q
-use Rattle.demands.specs.Demands.{TableOf, AnswersOf, AnsweredAs}
+use Rattle.demands.specs.Demands.{TableOf, AnswersOf, AnsweredAs, Unmarked}
 use Rattle.demands.proofs.Sides.{number-of, no-refusal, word-decides, made-answered, policy-kept, policy-side, request-kept, request-side, was-accepted}
+use Rattle.demands.proofs.Marking.{marks-of, adds-by}
 use Rattle.demands.proofs.Holding.{counts↔, entry-derives, first-round, table-fits, record-length, table-of, answers-of}
 
 -- ---- by the outcome that is meant
@@ -132,3 +133,15 @@ growingCall policy longer request facts answers ρ ρ′ P L q c c′ h l x p d 
 
 pub insidersSay : Q.InsidersSay
 insidersSay = M.insiders
+
+-- ---- whose words count
+
+pub theMarks : Q.TheMarks
+theMarks policy request marks κ P q c h = marks-of policy request marks P q h κ c
+
+pub unmarkedCall : Q.UnmarkedCall
+unmarkedCall policy longer request facts answers marks κ ρ ρ′ P L q k c c′ h l x =
+    let m = theMarks policy request marks κ P q k h in
+    let outside : (a : Assertion) → Unmarked (κ .marks) a → IssuedOutside P q a = λ a u. m .outside (a .issuer) (omega (arith, u .0, m .long)) .0 (u .1) in
+    outsidersCall policy longer request facts answers ρ ρ′ P L q c c′ h l
+    (record { version = x .version; constants = x .constants; verbs = x .verbs; assertions = adds-by outside (x .assertions) })

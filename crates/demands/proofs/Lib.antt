@@ -3,4 +3,5 @@ pub mod RecordLength
 pub mod Numbers
 pub mod Sides
 pub mod Holding
+pub mod Marking
 pub mod Demands

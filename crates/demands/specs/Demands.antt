@@ -16,6 +16,7 @@ use Rattle.model.specs.Layout.{readPolicy, readRequest}
 use Rattle.model.specs.Decision.{Verdict, allow, deny, refusal, Report, report, capacity, room, cleared, untouched, decision}
 use Rattle.model.specs.Theorems.{ReadAs, Inputs, DerivableIn, EntryIn, AnswerIn, InReach, Longer, IssuedOutside, Anyone, Positive, IsDecision}
 use Rattle.model.specs.Theorems.{answerIn, ListedIn, RecordsTell, Insiders}
+use Rattle.demands.specs.Lookups.{Reached, whoseWords}
 
 -- what the contract of `decide` says of a call: ρ is what it returned, and what both buffers hold then
 abbrev pub Call : List ℕ → List ℕ → List ℕ → List ℕ → Report → Type 0
@@ -151,3 +152,31 @@ GrowingCall = (policy longer request facts answers : List ℕ) (ρ ρ′ : Repor
 -- "Each issuer in the reach says the same, in the same rounds, when assertions from outside it count too": no calls in it, so it stands as in the model
 abbrev pub InsidersSay : Type 0
 InsidersSay = Insiders
+
+-- ---- whose words count: what a call of `secpal_reach` gives, and what demand 3 makes of it
+
+-- what its contract says of a call: κ is the refusal that it told, and what the marks hold then
+abbrev pub ReachCall : List ℕ → List ℕ → List ℕ → Reached → Type 0
+ReachCall policy request marks κ = κ ≡ whoseWords policy request marks
+
+-- no refusal, and as many marks as were lent: 1 for each constant in the least set, 0 for any other number
+pub record MarksOf (P : Policy) (q : Request) (lent : List ℕ) (κ : Reached) : Type 0 where
+  pub accepted : κ .refusal ≡ 0
+  pub long : length (κ .marks) ≡ length lent
+  pub inside : (i : ℕ) → i < length lent → (byteAt (κ .marks) i ≡ 1) ↔ InReach P q i
+  pub outside : (i : ℕ) → i < length lent → (byteAt (κ .marks) i ≡ 0) ↔ (¬ InReach P q i)
+
+abbrev pub TheMarks : Type 0
+TheMarks = (policy request marks : List ℕ) (κ : Reached) (P : Policy) (q : Request)
+    → ReachCall policy request marks κ → Inputs policy request P q → MarksOf P q marks κ
+
+-- an assertion whose issuer has a mark that is 0
+abbrev pub Unmarked : List ℕ → Assertion → Type 0
+Unmarked marks a = (a .issuer < length marks) × (byteAt marks (a .issuer) ≡ 0)
+
+-- nobody outside can change a byte of the decision
+abbrev pub UnmarkedCall : Type 0
+UnmarkedCall = (policy longer request facts answers marks : List ℕ) (κ : Reached) (ρ ρ′ : Report) (P L : Policy) (q : Request)
+    → ReachCall policy request marks κ → Call policy request facts answers ρ → Call longer request facts answers ρ′
+    → Inputs policy request P q → ReadAs longer L → Longer (Unmarked (κ .marks)) P L
+    → ρ′ ≡ ρ

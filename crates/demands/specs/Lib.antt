@@ -1,2 +1,3 @@
 -- The three demands, as statements about calls of the engine.
+pub mod Lookups
 pub mod Demands

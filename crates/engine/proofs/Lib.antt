@@ -4,3 +4,4 @@ pub mod Accepting
 pub mod Answering
 pub mod Refusing
 pub mod Reporting
+pub mod MarkLaws

@@ -29,7 +29,7 @@ use Rattle.engine.proofs.Accepting.{tables}
 
 -- ---- the policy
 
-policy-refused : (r : Reading Accepted) (n p : ℕ) → policies.handedOut r .answer ≡ answered.Refused n p → r ≡ refused n p
+pub policy-refused : (r : Reading Accepted) (n p : ℕ) → policies.handedOut r .answer ≡ answered.Refused n p → r ≡ refused n p
 unfolding policies.handedOut policies.refusal indexOf
 policy-refused (got A e) n p h = absurd (let z : _≡_ {A = ℕ} 0 1 = cc in omega arith)
 policy-refused (refused m k) n p h = let a : m ≡ n = cc in let b : k ≡ p = cc in λ i. refused (a i) (b i)
@@ -76,9 +76,14 @@ module _ (policy request : List ℕ) (x : Index) (i : x ≡ policies.handedOut (
       let y = accepted-reading (policyOf (w .0) .verbs) reading (ap (λ (r : Request). r .refusal) (sym handed) ∙ z) some-number in
       (w .0, y .0, record { accepts = record { end = w .1; read = w .2; index = i; last = y .1; asked = y .2 }; handed = handed; short = s })
 
+  pub reading-refused : (r .refusal ≡ 0 → ⊥) → reading ≡ refused (r .refusal) (r .place)
+  reading-refused z =
+      refused-reading (policyOf A .verbs) reading (λ e. z (ap (λ (r : Request). r .refusal) handed ∙ e)) (r .refusal) (r .place)
+      (ap (λ (r : Request). r .refusal) handed) (ap (λ (r : Request). r .place) handed)
+
   pub request-call : (r .refusal ≡ 0 → ⊥) → (facts answers : List ℕ) → Call policy request facts answers (report (refusal (r .refusal) 2 (r .place)) 0 0 0 facts answers)
   unfolding decision decisionBy decisionOn
   request-call z facts answers =
       let w = policy-got in
-      let y : reading ≡ refused (r .refusal) (r .place) = refused-reading (policyOf (w .0) .verbs) reading (λ e. z (ap (λ (r : Request). r .refusal) handed ∙ e)) (r .refusal) (r .place) (ap (λ (r : Request). r .refusal) handed) (ap (λ (r : Request). r .place) handed) in
-      sym (ap (λ (p : Reading Accepted). decisionBy p request facts answers) (w .2) ∙ ap (λ (q : Reading syntax.Request). decisionOn (policyOf (w .0)) q facts answers) y)
+      sym (ap (λ (p : Reading Accepted). decisionBy p request facts answers) (w .2)
+      ∙ ap (λ (q : Reading syntax.Request). decisionOn (policyOf (w .0)) q facts answers) (reading-refused z))

@@ -1,6 +1,7 @@
 -- The numbers of the C interface: what `secpal_decide` returns for a report of the model.
 use Prim.Native.Nat.{ℕ}
 use Rattle.model.specs.Decision.{Verdict, allow, deny, refusal, Report}
+use Rattle.demands.specs.Lookups.{Reached}
 use Rattle.engine.specs.declared.Report as c
 
 -- 0 refused, 1 allow, 2 deny
@@ -31,3 +32,7 @@ numbers d n s p f r a = record { decision = d; refusal = n; side = s; facts = f;
 abbrev pub numbersOf : Report → c.Report
 numbersOf ρ =
     numbers (decisionNumber (ρ .verdict)) (refusalNumber (ρ .verdict)) (sideNumber (ρ .verdict)) (placeNumber (ρ .verdict)) (ρ .facts) (ρ .rounds) (ρ .answers)
+
+-- what `secpal_reach` returns: a refusal from the input, or no numbers at all
+abbrev pub refusalOf : Reached → c.Report
+refusalOf κ = numbers 0 (κ .refusal) (κ .side) (κ .place) 0 0 0

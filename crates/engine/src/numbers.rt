@@ -24,7 +24,7 @@ fn told(decision: u32, facts: usize, rounds: usize, answers: usize) -> Report
 }
 
 // The numbers of a refusal; those of refusal 9 have facts and rounds.
-fn refused(number: u8, side: u8, place: usize, facts: usize, rounds: usize) -> Report
+pub fn refused(number: u8, side: u8, place: usize, facts: usize, rounds: usize) -> Report
     requires { ⌜ (facts < 4294967296) × (rounds < 4294967296) ⌝ }
     ensures { λ r. ⌜ r ≡ numbers 0 number side place facts rounds 0 ⌝ }
 {

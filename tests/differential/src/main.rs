@@ -1,7 +1,8 @@
 //! The engine beside the plain evaluator: on files of cases, and on generated ones. `differential [--cases N] [--seed S] FILE..`
-use evaluator::{generate, read, vectors, Report};
+use evaluator::{generate, vectors, Report};
 
 mod engine;
+mod lookups;
 
 /// How many facts and answers a case has, where there is room for all: the generator makes some buffers just too short.
 fn sizes(policy: &[u8], request: &[u8]) -> (usize, usize) {
@@ -19,34 +20,6 @@ fn compare(policy: &[u8], request: &[u8], facts: &[u8], answers: &[u8], expected
         return Some(format!("{:?} and not {:?}, or another buffer", got.verdict, expected.verdict));
     }
     None
-}
-
-/// A principal and a thing of one label: the contract speaks of the label's bytes, which are alike, and only the offset tells the two apart.
-const ONE_LABEL: [u8; 17] = [1, 0, 0, 0, 12, 0, 2, 2, 1, b'A', 2, 2, b'A', 0, 0, 0, 0];
-
-/// Each label of an accepted policy is that part of its bytes which holds it, and not another with equal bytes; of another policy it is empty.
-fn labels(policy: &[u8]) -> Option<String> {
-    let accepted = read::policy(policy).ok();
-    for c in 0..256 {
-        let expected = accepted.as_ref().and_then(|p| p.label(c));
-        let right = match (engine::label(policy, c as u32), expected) {
-            ((Some(at), n), Some(part)) => (at..at + n) == part,
-            ((Some(_), n), None) => n == 0,
-            _ => false,
-        };
-        if !right {
-            return Some(format!("the label of constant {c}, or its place"));
-        }
-    }
-    None
-}
-
-/// The labels of `ONE_LABEL`, which stand at two places.
-fn one_label() -> Option<String> {
-    match read::policy(&ONE_LABEL) {
-        Ok(p) if p.label(0) == Some(9..10) && p.label(1) == Some(12..13) => labels(&ONE_LABEL),
-        _ => Some("a principal and a thing of one label are not read".to_string()),
-    }
 }
 
 fn main() {
@@ -70,17 +43,20 @@ fn main() {
     for file in files {
         let text = std::fs::read_to_string(&file).expect("a file of cases");
         for (i, (name, c)) in vectors::cases(&text).into_iter().enumerate() {
-            tell(format!("{file}: case {} ({name})", i + 1), compare(&c.policy, &c.request, &c.facts, &c.answers, &c.expected).or(labels(&c.policy)));
+            tell(
+                format!("{file}: case {} ({name})", i + 1),
+                compare(&c.policy, &c.request, &c.facts, &c.answers, &c.expected).or(lookups::wrong(&c.policy, &c.request)),
+            );
         }
     }
-    tell("two constants of one label".to_string(), one_label());
+    tell("two constants of one label".to_string(), lookups::wrong_in_one_label());
     println!("differential: {count} generated cases, seeds {seed} to {}", seed + count.max(1) - 1);
     for s in seed..seed + count {
         let c = generate::case(s, sizes);
         let expected = evaluator::decision(&c.policy, &c.request, &c.facts, &c.answers);
-        // a label costs a reading of the policy, so the 256 labels are looked at in every twentieth case
-        let wrong = compare(&c.policy, &c.request, &c.facts, &c.answers, &expected);
-        tell(format!("seed {s}"), wrong.or_else(|| if s % 20 == 0 { labels(&c.policy) } else { None }));
+        // each lookup costs a reading of the policy, so all of them are made in every twentieth case
+        let wrong = compare(&c.policy, &c.request, &c.facts, &c.answers, &expected).or_else(|| lookups::wrong_reach(&c.policy, &c.request));
+        tell(format!("seed {s}"), wrong.or_else(|| if s % 20 == 0 { lookups::wrong(&c.policy, &c.request) } else { None }));
     }
     println!("{passed} passed, {failed} failed");
     std::process::exit(if failed == 0 && passed > 0 { 0 } else { 1 });

@@ -194,14 +194,22 @@ fn constant(r: &mut Random, kind: u8) -> Vec<u8> {
             let more = if r.wild(10) { 3 } else { r.below(3) };
             c.extend(((base + more) as u32).to_be_bytes());
         }
-        _ => c.extend((r.pick(&[0, 1, 7, 255, 256, u32::MAX]) as u32).to_be_bytes()),
+        _ => c.extend(r.pick(&[0, 1, 7, 255, 256, u32::MAX]).to_be_bytes()),
     }
     c
 }
 
 fn policy(r: &mut Random) -> (Vec<u8>, Names) {
     let mut n = Names { kinds: vec![], verbs: vec![vec![PRINCIPAL]] };
-    let wanted = if r.once_in(100) { r.range(250, 255) } else { if r.wild(4) { r.range(1, 5) } else { r.range(5, 10) } };
+    let wanted = if r.once_in(100) {
+        r.range(250, 255)
+    } else {
+        if r.wild(4) {
+            r.range(1, 5)
+        } else {
+            r.range(5, 10)
+        }
+    };
     let mut constants: Vec<Vec<u8>> = vec![];
     for i in 0..wanted {
         // one of each kind first, as a rule

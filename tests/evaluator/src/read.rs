@@ -217,7 +217,10 @@ fn constant(s: &[u8], at: usize) -> Result<((u8, Value), usize), Fault> {
     Ok(((kind, value), b.end))
 }
 
-fn verb(s: &[u8], at: usize) -> Result<((Vec<u8>, Vec<u8>), usize), Fault> {
+/// The kinds of a verb's parameters, and its label.
+type Verb = (Vec<u8>, Vec<u8>);
+
+fn verb(s: &[u8], at: usize) -> Result<(Verb, usize), Fault> {
     let mut b = item(s, at, 1)?;
     let arity = b.count(0, 3)?;
     let mut kinds = vec![];

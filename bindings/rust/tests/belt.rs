@@ -1,0 +1,53 @@
+//! The wrapper on the belt policy, whose bytes docs/FORMAT.md lays out.
+use secpal::{limits, Refusal, Verdict};
+
+fn example(name: &str) -> Vec<u8> {
+    let path = format!("{}/../../examples/belt/{name}.bin", env!("CARGO_MANIFEST_DIR"));
+    std::fs::read(&path).unwrap_or_else(|error| panic!("{path}: {error}"))
+}
+
+#[test]
+fn a_decision() {
+    let (policy, request) = (example("policy"), example("who"));
+    let (mut facts, mut answers) = (vec![0xAA; 1024], vec![0xAA; 64]);
+    let report = secpal::decide(&policy, &request, &mut facts, &mut answers);
+    assert_eq!((report.verdict, report.facts, report.rounds, report.answers), (Verdict::Allow, 10, 3, 1));
+    assert_eq!(facts[..16], [0, 1, 0, 0, 1, 1, 0, 0, 0, 0, 0, 0, 1, 0, 0, 0]);
+    assert!(facts[160..].iter().all(|byte| *byte == 0));
+    assert_eq!(answers[..8], [2, 255, 255, 255, 255, 255, 255, 255]);
+    assert!(answers[8..].iter().all(|byte| *byte == 0));
+}
+
+#[test]
+fn names_and_offsets() {
+    let policy = example("policy");
+    assert_eq!(secpal::constants(&policy), [7, 14, 21, 27]);
+    assert_eq!(secpal::verbs(&policy), [38, 49]);
+    assert_eq!(secpal::label(&policy, 3), b"encoder");
+    assert_eq!(secpal::label(&policy, 4), b"");
+    assert_eq!(secpal::find(&policy, limits::PRINCIPAL, b"Otto"), Some(2));
+    assert_eq!(secpal::find(&policy, limits::THING, b"Otto"), None);
+    assert_eq!(secpal::find(&policy, limits::DAY, b"Otto"), None);
+}
+
+#[test]
+fn reach() {
+    let (policy, request) = (example("policy"), example("otto"));
+    let marks = secpal::reach(&policy, &request).expect("both are accepted");
+    assert_eq!(marks.iter().filter(|mark| **mark).count(), 2);
+    assert!(marks[0] && marks[1], "Works is asked, and lets North speak");
+    assert_eq!(secpal::reach(&policy, &[]), Err(Refusal { number: limits::BAD_VERSION, side: limits::SIDE_REQUEST, place: 0 }));
+}
+
+#[test]
+fn a_policy_that_is_not_accepted() {
+    let mut policy = example("policy");
+    policy[7] = 200; // the first constant's length
+    let refusal = Refusal { number: limits::BAD_FORM, side: limits::SIDE_POLICY, place: 7 };
+    assert_eq!(secpal::policy_refusal(&policy), Some(refusal));
+    assert_eq!(secpal::reach(&policy, &example("otto")), Err(refusal));
+    assert!(secpal::constants(&policy).is_empty() && secpal::verbs(&policy).is_empty());
+    assert_eq!((secpal::label(&policy, 0), secpal::find(&policy, limits::PRINCIPAL, b"Works")), (&b""[..], None));
+    assert_eq!(secpal::policy_refusal(&example("policy")), None);
+    assert!(secpal::constants(&[]).is_empty());
+}

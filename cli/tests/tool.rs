@@ -1,0 +1,148 @@
+//! The tool as a person calls it: what it prints, and its exit status, 0 for allow, 1 for deny, 2 for a refusal or an error.
+use std::path::PathBuf;
+use std::process::Command;
+
+struct Ran {
+    status: i32,
+    printed: String,
+    complained: String,
+}
+
+fn secpal(arguments: &[&str]) -> Ran {
+    let examples = concat!(env!("CARGO_MANIFEST_DIR"), "/../examples");
+    let output = Command::new(env!("CARGO_BIN_EXE_secpal")).args(arguments).current_dir(examples).output().expect("it runs");
+    let text = |bytes| String::from_utf8(bytes).expect("text");
+    Ran { status: output.status.code().expect("an exit status"), printed: text(output.stdout), complained: text(output.stderr) }
+}
+
+/// A file in a folder of this run.
+fn scratch(name: &str, content: &[u8]) -> String {
+    let folder = PathBuf::from(env!("CARGO_TARGET_TMPDIR"));
+    let file = folder.join(name);
+    std::fs::write(&file, content).expect("a scratch file");
+    file.to_str().expect("a path").to_string()
+}
+
+const POLICY: &str = "permits/permits.secpal";
+
+#[test]
+fn allow_is_0() {
+    let ran = secpal(&["decide", POLICY, "on 2026-11-16 ask Works says ?who may-order encoder"]);
+    assert_eq!((ran.status, ran.printed.as_str()), (0, "allow: Works says ?who may-order encoder\n  ?who = Otto\n"));
+}
+
+#[test]
+fn deny_is_1_and_says_what_was_asked() {
+    let ran = secpal(&["decide", POLICY, "on 2028-11-16 ask Works says Otto may-order encoder"]);
+    assert_eq!(ran.status, 1);
+    let wanted = "deny: Works says Otto may-order encoder\n  does not follow from the statements of permits/permits.secpal on 2028-11-16\n";
+    assert_eq!(ran.printed, wanted);
+}
+
+#[test]
+fn what_the_policy_does_not_have_is_2_and_not_deny() {
+    let ran = secpal(&["decide", POLICY, "on 2026-11-16 ask Works says Oto may-order encoder"]);
+    assert_eq!((ran.status, ran.printed.as_str()), (2, ""));
+    assert_eq!(ran.complained, "request:1:30: the policy has no principal or thing Oto; the nearest is Otto\n");
+    let ran = secpal(&["decide", POLICY, "on 2026-11-16 ask Works says Otto permit-from 2026-03-02"]);
+    assert_eq!((ran.status, ran.complained.as_str()), (2, "request:1:47: the policy has no day 2026-03-02\n"));
+}
+
+#[test]
+fn both_forms_of_files() {
+    let bytes = scratch("permits.bin", b"");
+    assert_eq!(secpal(&["compile", POLICY, "-o", &bytes]).status, 0);
+    let asked = scratch("asked.bin", b"");
+    let question = "on 2026-11-16 ask all(Works says ?who may-order encoder, not(Works says ?who is-fitter))";
+    assert_eq!(secpal(&["compile", POLICY, question, "-o", &asked]).status, 0);
+    assert_eq!(secpal(&["decide", &bytes, &asked]).status, 1);
+    assert_eq!(secpal(&["decide", POLICY, &asked]).status, 1);
+    let shown = secpal(&["show", &bytes, &asked]);
+    assert_eq!(shown.printed, question.replace("?who", "?v0") + "\n");
+    let text = scratch("asked.txt", shown.printed.as_bytes());
+    assert_eq!(secpal(&["decide", &bytes, &text]).status, 1);
+}
+
+#[test]
+fn refused_bytes_are_shown_with_their_place() {
+    let ran = secpal(&["decide", "belt/policy.bin", "belt/policy.bin"]);
+    assert_eq!(ran.status, 2);
+    assert!(ran.complained.starts_with("belt/policy.bin, byte 5: refused (3): "), "{}", ran.complained);
+}
+
+#[test]
+fn facts_by_round() {
+    let ran = secpal(&["facts", "belt/policy.bin", "belt/otto.bin"]);
+    assert_eq!(ran.status, 0);
+    assert!(
+        ran.printed.ends_with("round 2\n  Works says Otto is-fitter\nround 3\n  Works says Otto may-order encoder\n"),
+        "{}",
+        ran.printed
+    );
+}
+
+#[test]
+fn whose_words_count() {
+    let ran = secpal(&["reach", "belt/policy.bin", "belt/otto.bin"]);
+    assert_eq!((ran.status, ran.printed.as_str()), (0, "Works\nNorth\n"));
+}
+
+#[test]
+fn answers_for_programs() {
+    let ran = secpal(&["decide", "belt/policy.bin", "belt/who.bin", "--json"]);
+    let wanted =
+        "{\"decision\":\"allow\",\"asked\":\"Works says ?v0 may-order encoder\",\"today\":\"2000-01-01\",\"facts\":10,\"rounds\":3,\
+                  \"answers\":[{\"?v0\":\"Otto\"}]}\n";
+    assert_eq!((ran.status, ran.printed.as_str()), (0, wanted));
+    let ran = secpal(&["--json", "check", POLICY, "on 2026-11-16 ask Works says Oto is-fitter"]);
+    let wanted =
+        "{\"error\":\"the policy has no principal or thing Oto; the nearest is Otto\",\"file\":\"request\",\"line\":1,\"column\":30}\n";
+    assert_eq!((ran.status, ran.printed.as_str(), ran.complained.as_str()), (2, wanted, ""));
+    for command in [&["limits"][..], &["version"], &["reach", "belt/policy.bin", "belt/otto.bin"], &["check", POLICY]] {
+        let ran = secpal(&[command, &["--json"]].concat());
+        assert_eq!(ran.status, 0);
+        assert!(ran.printed.starts_with('{') && ran.printed.ends_with("}\n"), "{}", ran.printed);
+    }
+}
+
+#[test]
+fn expectations() {
+    let ran = secpal(&["test", POLICY, "permits/permits.expect"]);
+    assert_eq!((ran.status, ran.printed.as_str()), (0, "5 as expected, 0 not\n"));
+    let other = scratch("other.expect", b"on 2026-11-16\nallow Works says North may-order encoder.\ndeny Works says Otto is-fitter.\n");
+    let ran = secpal(&["test", POLICY, &other]);
+    assert_eq!(ran.status, 1);
+    assert!(ran.printed.contains(":2: Works says North may-order encoder: is denied\n"), "{}", ran.printed);
+    assert!(ran.printed.ends_with("0 as expected, 2 not\n"), "{}", ran.printed);
+}
+
+#[test]
+fn the_examples_are_in_their_layout() {
+    for file in ["belt/belt.secpal", "permits/permits.secpal", "permits/permits.expect"] {
+        assert_eq!(secpal(&["fmt", "--check", file]).status, 0, "{file}");
+    }
+    assert_eq!(secpal(&["show", "belt/policy.bin"]).printed, secpal(&["show", "belt/belt.secpal"]).printed);
+}
+
+#[test]
+fn the_layout_keeps_comments_and_names() {
+    let loose = "version 1 -- v\n-- a\nprincipal A,\n B -- b\nprincipal C\nprincipal D\n\nprincipal E\nverb v day\n#0 A says\n  ?who v ?d -- c\n if ?who v ?d. -- d\n-- e\n";
+    let tidy = "-- v\n-- a\nprincipal A, B  -- b\nprincipal C, D\n\nprincipal E\n\nverb v day\n\n-- c\nA says ?who v ?d if ?who v ?d.  -- d\n-- e\n";
+    let file = scratch("loose.secpal", loose.as_bytes());
+    assert_eq!(secpal(&["fmt", &file]).printed, tidy);
+    assert_eq!(secpal(&["fmt", "--check", &file]).status, 1);
+    assert_eq!(secpal(&["fmt", "-w", &file]).status, 0);
+    assert_eq!(secpal(&["fmt", "--check", &file]).status, 0);
+    assert_eq!(std::fs::read_to_string(&file).expect("the file"), tidy);
+}
+
+#[test]
+fn arguments_that_are_not_taken() {
+    for arguments in [&[][..], &["decide"], &["decide", POLICY], &["no-such"], &["limits", "x"], &["decide", "--no-such", POLICY, "x"]] {
+        let ran = secpal(arguments);
+        assert_eq!((ran.status, ran.printed.as_str()), (2, ""), "{arguments:?}");
+        assert!(ran.complained.contains("usage: secpal"), "{}", ran.complained);
+    }
+    assert_eq!(secpal(&["--help"]).status, 0);
+    assert_eq!(secpal(&["decide", POLICY, "no-such-file"]).status, 2);
+}

@@ -1,0 +1,126 @@
+-- The reach's marks in a lent slice are the model's, and a refusal leaves the slice.
+use mathlib.Core.Path.{_≡_, refl, sym, ap, ap₂, subst, _∙_}
+use mathlib.Core.Bool.{Bool, cond}
+use mathlib.Core.List.{List, [], _∷_, _++_, map, List·Memᴰ}
+use Prim.Native.Nat.{ℕ, zero, suc, _+_, _≤_, _<_}
+use native.Mathlib.Numerals.{add-one}
+use native.Mathlib.Omega.{arith}
+use lib.ListN.{length, getD, set, take, drop, length-map}
+use Rattle.model.specs.Lists.{member}
+use Rattle.model.specs.Syntax as syntax
+use Rattle.model.specs.Syntax.{Assertion, Policy, World, worldOf}
+use Rattle.model.specs.Bytes.{byteAt, bytesAt, Reading, got, refused}
+use Rattle.model.specs.Readings.{assertionAt}
+use Rattle.model.specs.Requests.{issuers}
+use Rattle.model.specs.Reached.{reach}
+use Rattle.model.specs.Limits.{maxAssertions}
+use Rattle.model.specs.Policies.{Item, Accepted, policyOf, readPolicy, contents, offsets}
+use Rattle.model.specs.Nodes.{readRequest}
+use Rattle.model.proofs.ReadFacts.{accepted-fine}
+use Rattle.demands.specs.Lookups.{reachOf, marksFrom, reached, reachedOn, reachedBy, whoseWords}
+use Rattle.policy.specs.Index as policies
+use Rattle.policy.specs.Index.{held, kindTable, indexOf}
+use Rattle.policy.specs.declared.Index.{Index}
+use Rattle.reach.specs.Marks.{Marks, IsReach, Reads, assertionsAt}
+use Rattle.reach.proofs.Counting.{accepted-reads}
+use Rattle.program.proofs.Accepted.{accepted-known, held-front}
+use Rattle.engine.specs.Accepts.{Accepts}
+
+-- ---- a slice written from its front
+
+-- n bytes of m, of which the first i are written over the places of t
+abbrev pub written : List ℕ → List ℕ → ℕ → List ℕ
+written m t i = take i (bytesAt (length t) m 0) ++ drop i t
+
+over-next : (L t : List ℕ) (i : ℕ) → i < length L → i < length t → set (take i L ++ drop i t) i (getD L i 0) ≡ take (suc i) L ++ drop (suc i) t
+over-next [] t i h k = absurd (omega arith)
+over-next (a ∷ L) [] i h k = absurd (omega arith)
+over-next (a ∷ L) (b ∷ t) zero h k = refl
+over-next (a ∷ L) (b ∷ t) (suc i) h k = ap (λ (l : List ℕ). a ∷ l) (over-next L t i (omega arith) (omega arith))
+
+over-all : (L t : List ℕ) → length L ≡ length t → take (length t) L ++ drop (length t) t ≡ L
+over-all [] [] e = refl
+over-all [] (b ∷ t) e = absurd (omega arith)
+over-all (a ∷ L) [] e = absurd (omega arith)
+over-all (a ∷ L) (b ∷ t) e = ap (λ (l : List ℕ). a ∷ l) (over-all L t (omega arith))
+
+bytes-length : (n : ℕ) (m : List ℕ) (p : ℕ) → length (bytesAt n m p) ≡ n
+unfolding bytesAt
+bytes-length zero m p = refl
+bytes-length (suc n) m p = ap suc (bytes-length n m (p + 1))
+
+bytes-at : (n : ℕ) (m : List ℕ) (p i : ℕ) → i < n → getD (bytesAt n m p) i 0 ≡ byteAt m (p + i)
+unfolding bytesAt
+bytes-at zero m p i h = absurd (omega arith)
+bytes-at (suc n) m p zero h = let e : p ≡ p + 0 = omega arith in ap (byteAt m) e
+bytes-at (suc n) m p (suc i) h = let e : p + 1 + i ≡ p + suc i = omega arith in bytes-at n m (p + 1) i (omega arith) ∙ ap (byteAt m) e
+
+pub written-next : (m t : List ℕ) (i b : ℕ) → i < length t → b ≡ byteAt m i → set (written m t i) i b ≡ written m t (i + 1)
+written-next m t i b h e =
+    let d : 0 + i ≡ i = omega arith in
+    ap (set (written m t i) i) (e ∙ sym (bytes-at (length t) m 0 i h ∙ ap (byteAt m) d))
+    ∙ over-next (bytesAt (length t) m 0) t i (omega (arith, bytes-length (length t) m 0)) h ∙ ap (written m t) (sym (add-one i))
+
+pub written-all : (m t : List ℕ) (i : ℕ) → i ≡ length t → written m t i ≡ bytesAt (length t) m 0
+written-all m t i e = ap (written m t) e ∙ over-all (bytesAt (length t) m 0) t (bytes-length (length t) m 0)
+
+-- ---- the marks of a set, as bytes
+
+pub bytes-marks : (l m : List ℕ) → Marks l m → (n i : ℕ) → bytesAt n m i ≡ marksFrom l n i
+unfolding bytesAt marksFrom
+bytes-marks l m h zero i = refl
+bytes-marks l m h (suc n) i = ap₂ (λ (b : ℕ) (t : List ℕ). b ∷ t) (h i) (ap (bytesAt n m) (add-one i) ∙ bytes-marks l m h n (suc i))
+
+-- ---- the reach of an accepted request
+
+module _ {policy request : List ℕ} {x : Index} {A : Accepted} {q : syntax.Request} (a : Accepts policy request x A q) where
+  abbrev P : Policy
+  P = policyOf A
+
+  abbrev W : World
+  W = worldOf P q
+
+  abbrev ats : List ℕ
+  ats = held maxAssertions (offsets (A .assertions))
+
+  is : indexOf A ≡ x
+  unfolding policies.handedOut
+  is = sym (a .index ∙ ap policies.handedOut (a .read))
+
+  front : take (length (A .assertions)) ats ≡ offsets (A .assertions)
+  front =
+      ap (λ (n : ℕ). take n ats) (sym (length-map (A .assertions) (λ (i : Item Assertion). i .at))) ∙ held-front maxAssertions (offsets (A .assertions))
+
+  all-read : assertionsAt W policy (take (length (A .assertions)) ats) ≡ P .assertions
+  all-read = ap (map (assertionAt (contents (A .verbs)) policy)) front ∙ sym (accepted-known policy A (a .end) (a .read) .read)
+
+  reads : Reads W policy (take (length (A .assertions)) ats) (kindTable (contents (A .constants)))
+  reads =
+      let known = accepted-known policy A (a .end) (a .read) in
+      accepted-reads W policy (take (length (A .assertions)) ats) (kindTable (contents (A .constants))) (known .tables .kinds) (known .constants)
+      (λ b m. accepted-fine policy A (a .end) (a .read) b (subst (List·Memᴰ b) all-read m) .fit)
+
+  pub reach-marks : (asked marks : List ℕ) → Marks (issuers (q .node) W) asked
+      → IsReach policy (take (x .assertions) (x .«assertion_at»)) (x .kinds) asked marks → Marks (reachOf P q) marks
+  unfolding indexOf
+  reach-marks asked marks of reaches =
+      subst (λ (𝒜 : List Assertion). Marks (reach W 𝒜 (issuers (q .node) W)) marks) all-read
+      (subst (λ (y : Index). IsReach policy (take (y .assertions) (y .«assertion_at»)) (y .kinds) asked marks) (sym is) reaches W (issuers (q .node) W) reads of)
+
+  -- what the call tells then
+  pub accepted-words : (marks : List ℕ) → whoseWords policy request marks ≡ reached 0 0 0 (marksFrom (reachOf P q) (length marks) 0)
+  unfolding whoseWords reachedBy reachedOn
+  accepted-words marks =
+      ap (λ (r : Reading Accepted). reachedBy r request marks) (a .read) ∙ ap (λ (r : Reading syntax.Request). reachedOn P r marks) (a .asked)
+
+-- ---- refusals
+
+pub policy-words : (policy request marks : List ℕ) (n p : ℕ) → readPolicy policy ≡ refused n p → whoseWords policy request marks ≡ reached n 1 p marks
+unfolding whoseWords reachedBy
+policy-words policy request marks n p e = ap (λ (r : Reading Accepted). reachedBy r request marks) e
+
+pub request-words : (policy request marks : List ℕ) (A : Accepted) (e n p : ℕ) → readPolicy policy ≡ got A e
+    → readRequest (policyOf A .constants) (policyOf A .verbs) request ≡ refused n p → whoseWords policy request marks ≡ reached n 2 p marks
+unfolding whoseWords reachedBy reachedOn
+request-words policy request marks A e n p r h =
+    ap (λ (r : Reading Accepted). reachedBy r request marks) r ∙ ap (λ (r : Reading syntax.Request). reachedOn (policyOf A) r marks) h
