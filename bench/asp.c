@@ -68,7 +68,7 @@ static void print_test(FILE *out, const program *g, const test *t, unsigned i) {
     snprintf(right, sizeof right, "R%u", i % 4);
     print_number(out, g, t->left, left);
     print_number(out, g, t->right, right);
-    if (t->op == 5) fprintf(out, ", %s - %s <= 365", left, right);
+    if (t->op == 5) fprintf(out, ", year_after(%s,A%u), %s <= A%u", right, i % 4, left, i % 4);
     else fprintf(out, ", %s %s %s", left, sign[t->op % 4], right);
 }
 
@@ -90,6 +90,7 @@ static void print_constants(FILE *out, const program *g) {
         const constant *c = &g->constant[i];
         fprintf(out, "kind(%u,%d).\n", i, c->kind);
         if (c->kind >= DAY) fprintf(out, "number(%u,%u).\n", i, number_of(g, c));
+        if (c->kind == DAY) fprintf(out, "year_after(%u,%u).\n", c->number, year_after(c->number));
         for (uint32_t j = 0; c->kind == THING && j < g->constants; j++)
             if (g->constant[j].kind == THING && holds(g, 4, (uint16_t)i, (uint16_t)j)) fprintf(out, "begins(%u,%u).\n", i, j);
     }
@@ -97,6 +98,7 @@ static void print_constants(FILE *out, const program *g) {
 
 static void print_program(FILE *out, const program *g) {
     fprintf(out, "#show.\n#defined number/2.\n#defined begins/2.\n#defined says/3.\ndepth(0..1).\n");
+    fprintf(out, "year_after(%u,%u).\n", g->today, year_after(g->today));
     print_constants(out, g);
     for (uint32_t i = 0; i < g->rules; i++) print_rule(out, g, &g->rule[i]);
     fprintf(out, "says(A,1,F) :- says(A,1,c(B,K,F)), says(B,K,F).\n");

@@ -126,6 +126,23 @@ void read_program(program *g, const uint8_t *policy, const uint8_t *request) {
     g->rules = kept;
 }
 
+/* Days before each month, in a year that is no leap year and in one that is. */
+static const uint16_t before[2][12] = {{0, 31, 59, 90, 120, 151, 181, 212, 243, 273, 304, 334}, {0, 31, 60, 91, 121, 152, 182, 213, 244, 274, 305, 335}};
+
+/* Years from 2000 to 2100. */
+static bool leap(uint32_t years) {
+    return years % 4 == 0 && years != 100;
+}
+
+uint32_t year_after(uint32_t day) {
+    uint32_t years = 4 * day / 1461, over = day - (365 * years + (years + 3) / 4), month = 11;
+    while (over < before[leap(years)][month]) month--;
+    uint32_t date = over - before[leap(years)][month];
+    if (month == 1 && date == 28) date = 27;
+    years++;
+    return 365 * years + (years + 3) / 4 + before[leap(years)][month] + date;
+}
+
 bool holds(const program *g, uint8_t op, uint16_t left, uint16_t right) {
     constant today = {.kind = DAY, .number = g->today};
     const constant *l = left == TODAY ? &today : &g->constant[left];
@@ -141,5 +158,5 @@ bool holds(const program *g, uint8_t op, uint16_t left, uint16_t right) {
     case 4:
         return l->len >= r->len && memcmp(l->label, r->label, r->len) == 0;
     }
-    return (int32_t)l->number - (int32_t)r->number <= 365;
+    return l->number <= year_after(r->number);
 }

@@ -40,6 +40,9 @@ typedef struct {
 /* Fills in the program of a policy and a request, which must be accepted ones. */
 void read_program(program *g, const uint8_t *policy, const uint8_t *request);
 
+/* The day one year after, by the calendar. */
+uint32_t year_after(uint32_t day);
+
 /* Whether a test holds between two constants, or today. */
 bool holds(const program *g, uint8_t op, uint16_t left, uint16_t right);
 

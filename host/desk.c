@@ -167,7 +167,7 @@ static size_t print_asked_fact(size_t at)
 /* The node at `at` of the request, in words; where it ends. */
 static size_t print_node(size_t at)
 {
-    static const char *const operators[] = {"", "is", "is not", "is at most", "begins with", "is at most 365 days after"};
+    static const char *const operators[] = {"", "is", "is not", "is at most", "begins with", "is no later than a year after"};
     size_t p = at + 2;
     switch (request[at]) {
     case 1:

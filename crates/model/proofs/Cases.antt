@@ -9,6 +9,7 @@ use Rattle.model.specs.Reached.{reach}
 use Rattle.model.specs.Bytes.{Reading, got, refused}
 use Rattle.model.specs.Bytes.{u16At, u32At, choose, andThen}
 use Rattle.model.specs.Reader.{sized, times, items, byte, u16, u32, byteIn, rest, list}
+use Rattle.model.specs.Calendar.{daysOfYears, daysOfMonths, dateOf, yearAfter}
 use Rattle.model.specs.Layout.{Accepted, policyOf, label, constant, verb, expr, constraint, levels, fact, assertion, constantItem, verbItem}
 use Rattle.model.specs.Layout.{assertionItem, asking, parts, node, slice, readPolicy, readRequest}
 use Rattle.model.specs.Decision.{decisionOn, decisionBy, decision}
@@ -22,6 +23,7 @@ unfolding
     u16At u32At choose andThen
     sized times items byte u16 u32 byteIn rest list
     label constant verb expr constraint levels fact assertion constantItem verbItem assertionItem asking parts node slice readPolicy readRequest
+    daysOfYears daysOfMonths dateOf yearAfter
     decisionOn decisionBy decision
 rows = (refl, refl, refl)
 

@@ -29,3 +29,5 @@ pub mod BoundVariables
 pub mod Grounded
 pub mod FreeVariables
 pub mod Theorems
+pub mod CalendarFacts
+pub mod Years

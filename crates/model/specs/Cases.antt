@@ -140,10 +140,10 @@ closed = replicate 8 unbound
 abbrev zeros : ℕ → List ℕ
 zeros n = replicate n 0
 
--- ---- "Operator 5": today against the day 100
+-- ---- operator 5, "left is no later than right's calendar date one year after": today against a day
 
-abbrev days : List ℕ
-days = file (list (short (principal ∷ 87 ∷ []) ∷ short (day ∷ 0 ∷ 0 ∷ 0 ∷ 100 ∷ []) ∷ []) ++ list [] ++ list [])
+abbrev since : ℕ → List ℕ
+since right = file (list (short (principal ∷ 87 ∷ []) ∷ short (day ∷ 0 ∷ 0 ∷ two right) ∷ []) ++ list [] ++ list [])
 
 abbrev inTheYear : ℕ → List ℕ
 inTheYear today = request today (2 ∷ 5 ∷ two 0x4000 ++ two 1)
@@ -165,11 +165,24 @@ beltRows =
     -- "Works says v0 may-order encoder, v0 free: one answer, v0 = 2; answer buffer of 7 bytes: 9."
     ∷ (call P whoMay 160 8, report allow 10 3 1 tenFacts (2 ∷ replicate 7 unbound))
     ∷ (call P whoMay 160 7, report (refusal 9 0 0) 10 3 0 tenFacts (zeros 7))
-    -- "Operator 5: differences 365, 0 and -1 hold, 366 does not."
-    ∷ (call days (inTheYear 465) 0 8, report allow 0 0 1 [] closed)
-    ∷ (call days (inTheYear 100) 0 8, report allow 0 0 1 [] closed)
-    ∷ (call days (inTheYear 99) 0 8, report allow 0 0 1 [] closed)
-    ∷ (call days (inTheYear 466) 0 8, report deny 0 0 0 [] (zeros 8))
+    -- "Right 0 (1 January 2000) admits left 366."
+    ∷ (call (since 0) (inTheYear 366) 0 8, report allow 0 0 1 [] closed)
+    ∷ (call (since 0) (inTheYear 367) 0 8, report deny 0 0 0 [] (zeros 8))
+    -- "differences of 0 and below still hold"
+    ∷ (call (since 100) (inTheYear 100) 0 8, report allow 0 0 1 [] closed)
+    ∷ (call (since 100) (inTheYear 99) 0 8, report allow 0 0 1 [] closed)
+    -- 28 February 2000 to 28 February 2001
+    ∷ (call (since 58) (inTheYear 424) 0 8, report allow 0 0 1 [] closed)
+    ∷ (call (since 58) (inTheYear 425) 0 8, report deny 0 0 0 [] (zeros 8))
+    -- "29 February goes to 28 February."
+    ∷ (call (since 59) (inTheYear 424) 0 8, report allow 0 0 1 [] closed)
+    ∷ (call (since 59) (inTheYear 425) 0 8, report deny 0 0 0 [] (zeros 8))
+    -- 1 March 2000 to 1 March 2001
+    ∷ (call (since 60) (inTheYear 425) 0 8, report allow 0 0 1 [] closed)
+    ∷ (call (since 60) (inTheYear 426) 0 8, report deny 0 0 0 [] (zeros 8))
+    -- 1 March 2003 to 1 March 2004, with a 29 February between
+    ∷ (call (since 1155) (inTheYear 1521) 0 8, report allow 0 0 1 [] closed)
+    ∷ (call (since 1155) (inTheYear 1522) 0 8, report deny 0 0 0 [] (zeros 8))
     -- "Head 'v0 is-fitter' with no body: 6. A lone not over v0: 7."
     ∷ (call (policy (i ∷ ii ∷ statement works (isFitter var₀) [] ∷ [])) Q 160 8, refuses 6 1 100 160 8)
     ∷ (call P (request 0 (5 ∷ says works (isFitter var₀))) 160 8, refuses 7 2 9 160 8)

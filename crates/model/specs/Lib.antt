@@ -5,6 +5,7 @@ pub mod Limits
 pub mod Lists
 pub mod Syntax
 pub mod Kinds
+pub mod Calendar
 pub mod Values
 pub mod Binding
 -- What is true: rules, reach, requests, safety, and the outcome that is meant.
@@ -35,4 +36,5 @@ pub mod Policies
 pub mod Nodes
 -- What is proved.
 pub mod Theorems
+pub mod Years
 pub mod Cases

@@ -4,9 +4,10 @@ use mathlib.Core.Bool.{Bool, true, false, _&&_, not}
 use Prim.Native.Nat.{ℕ, zero, suc, _+_}
 use lib.ListN.{getD}
 use lib.Dec.{eqb, leb}
-use Rattle.model.specs.Limits.{day, unbound}
+use Rattle.model.specs.Limits.{day, maxDay, unbound}
 use Rattle.model.specs.Lists.{only, sameList, front, product}
 use Rattle.model.specs.Syntax.{Expr, con, var, today, Constraint, Assertion, Constant, World}
+use Rattle.model.specs.Calendar.{yearAfter}
 use Rattle.model.specs.Kinds.{noConstant, demandsOf, kindOf, variables}
 
 -- ---- "variables range over the policy's constants of their kind"
@@ -46,9 +47,9 @@ value W θ today = record { kind = day; label = []; number = W .today }
 abbrev pub sameValue : Constant → Constant → Bool
 sameValue l r = alike (l .label) (r .label) && eqb (l .number) (r .number)
 
--- operator 5: "left minus right is at most 365; the difference may be below zero"
+-- operator 5: "left is no later than right's calendar date one year after"; a number above 36,524 is no day
 abbrev pub withinYear : ℕ → ℕ → Bool
-withinYear l r = leb l (r + 365)
+withinYear l r = leb r maxDay && leb l (yearAfter r)
 
 -- the column "Holds if": 1, 2 values equal, values differ; 3 left at most right; 4 left's label begins with right's; 5
 abbrev pub operator : ℕ → Constant → Constant → Bool

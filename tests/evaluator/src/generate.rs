@@ -185,14 +185,16 @@ fn label(r: &mut Random) -> Vec<u8> {
     (0..n).map(|_| r.pick(b"abAB!~")).collect()
 }
 
+/// Days, with two more each, at which a year on may be 365 or 366 days on: the first and the last ones, and the turn of February in leap years and beside them.
+const DAYS: [usize; 12] = [0, 58, 365, 423, 1000, 1153, 1519, 1884, 35122, 35487, 36159, 36522];
+
 fn constant(r: &mut Random, kind: u8) -> Vec<u8> {
     let mut c = vec![kind];
     match kind {
         PRINCIPAL | THING => c.extend(label(r)),
         DAY => {
-            let base = r.pick(&[0usize, 365, 366, 1000, 36159, 36522]);
             let more = if r.wild(10) { 3 } else { r.below(3) };
-            c.extend(((base + more) as u32).to_be_bytes());
+            c.extend(((r.pick(&DAYS) + more) as u32).to_be_bytes());
         }
         _ => c.extend(r.pick(&[0, 1, 7, 255, 256, u32::MAX]).to_be_bytes()),
     }
@@ -296,7 +298,7 @@ fn node(r: &mut Random, n: &Names, s: &mut Scope, depth: usize) -> Vec<u8> {
 
 fn request(r: &mut Random, n: &Names) -> Vec<u8> {
     let latest = if r.wild(10) { 36525 } else { 36524 };
-    let today = r.pick(&[0usize, 1, 365, 366, 1000, 36524, latest]);
+    let today = if r.once_in(3) { r.pick(&DAYS) + r.below(3) } else { r.pick(&[0usize, 1, 365, 366, 1000, 36524, latest]) };
     let mut body = (today as u32).to_be_bytes().to_vec();
     body.extend(node(r, n, &mut Scope::default(), 1));
     file(body)

@@ -1,5 +1,6 @@
 //! A plain evaluator of the specification (document 01): as simple as can be, and written from it alone, to compare the engine with.
 
+pub mod calendar;
 pub mod decide;
 pub mod generate;
 pub mod read;
