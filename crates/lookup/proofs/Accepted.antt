@@ -2,13 +2,13 @@
 use mathlib.Core.Path.{_≡_, refl, sym, ap, ap₂, subst, _∙_}
 use mathlib.Core.Logic.{⊎-elim}
 use mathlib.Core.Bool.{Bool, true, false, not, _&&_}
-use mathlib.Core.List.{List, [], _∷_, _++_, map, List·Memᴰ, List·Memᴰ·head, List·Memᴰ·tail, List·Memᴰ·not-nil, List·Memᴰ·eq-of-singleton, List·Memᴰ·append-cases}
+use mathlib.Core.List.{List, [], _∷_, _++_, map, List·Memᴰ, List·Memᴰ·head, List·Memᴰ·tail, List·Memᴰ·not-nil, List·Memᴰ·eq-of-singleton}
+use mathlib.Core.List.{List·Memᴰ·append-cases}
 use Prim.Native.Nat.{ℕ, zero, suc, _+_, _-_, _*_, _≤_, _<_}
 use native.Mathlib.Decide.{decLt}
 use native.Mathlib.Omega.{arith}
 use lib.Dec.{T, eqb, ltb}
-use lib.ListN.{length, getD, take, replicate, length-map, length-append}
-use lib.Seq.{take-at}
+use lib.ListN.{length, getD, take, length-map, length-append}
 use borrow.Author.Tests.{lt-ltb, eqb-true}
 use Rattle.model.specs.Limits.{maxConstants, maxVerbs}
 use Rattle.model.specs.Syntax.{Constant, Verb}
@@ -17,7 +17,8 @@ use Rattle.model.specs.Values.{alike}
 use Rattle.model.specs.Bytes.{byteAt, u16At, bytesAt, choose, Reading, got, refused}
 use Rattle.model.specs.Readings.{itemEnd, hasLabel, constantAt}
 use Rattle.model.specs.Forms.{constantForm, verbForm}
-use Rattle.model.specs.Policies.{Item, contents, offsets, itemsFrom, listAt, constantItem, verbItem, Accepted, assertionsFrom, verbsFrom, constantsFrom, computedPolicy, readPolicy}
+use Rattle.model.specs.Policies.{Item, contents, offsets, itemsFrom, listAt, constantItem, verbItem, Accepted, assertionsFrom, verbsFrom, constantsFrom}
+use Rattle.model.specs.Policies.{computedPolicy, readPolicy}
 use Rattle.model.proofs.ReadFacts.{never, choose-yes, choose-no, andThen-got, headed-got, ended-got}
 use Rattle.model.proofs.PolicyReader.{policy-is}
 use Rattle.wire.proofs.Reading.{choose-true, choose-false}
@@ -25,7 +26,7 @@ use Rattle.policy.specs.declared.Index.{Index}
 use Rattle.policy.specs.Index.{held, kindTable, indexOf, refusal, handedOut}
 use Rattle.policy.proofs.FormFacts.{constant-two}
 use Rattle.policy.proofs.ItemFacts.{constant-right}
-use Rattle.policy.proofs.TableFacts.{held-at, kind-is}
+use Rattle.policy.proofs.TableFacts.{held-at, kind-is, held-front, held-long}
 use Rattle.demands.specs.Lookups.{constantOffsets, verbOffsets, noNumber, firstOf, isNamed, numberIn}
 use Rattle.lookup.specs.Named.{Near, Standing, namedAt}
 use Rattle.lookup.proofs.Laws.{first-same}
@@ -85,7 +86,8 @@ by-number Q (i ∷ js) h d (suc k) l = by-number Q js (λ j m. h j (List·Memᴰ
 
 -- ---- the two readers
 
-item-got : {A : Type 0} (form alike : Bool) (v x : A) (at f e : ℕ) → choose form (choose alike (refused 4 at) (got v f)) (refused 3 at) ≡ got x e → (x ≡ v) × (e ≡ f)
+item-got : {A : Type 0} (form alike : Bool) (v x : A) (at f e : ℕ) → choose form (choose alike (refused 4 at) (got v f)) (refused 3 at) ≡ got x e → (x ≡ v)
+    × (e ≡ f)
 item-got form alike v x at f e h =
     let b = choose-no alike _ 4 at x e (choose-yes form _ 3 at x e h .1) .1 in
     let p : x ≡ v = cc in
@@ -133,9 +135,11 @@ module _ (s : List ℕ) (bytes : (i : ℕ) → byteAt s i < 256) where
       let C = list-stands (constantItem s) ConstantAt constant-sound s 1 maxConstants 5 (c .0) (c .1) (c .2) in
       let verbs = list-stands (verbItem s) (λ (at : ℕ) (v : Verb). Unit {0}) verb-sound s 0 maxVerbs (c .1) (v .0) (v .1) (v .2) in
       subst Stand is (record {
-        constants = by-number (λ (i : Item Constant). ConstantAt (i .at) (i .of) × (i .at < 4294967296)) (c .0) (λ i m. let q = C .0 i m in (q .0, omega (arith, q .1, C .1))) noConstant;
+        constants = by-number (λ (i : Item Constant). ConstantAt (i .at) (i .of) × (i .at < 4294967296)) (c .0)
+            (λ i m. let q = C .0 i m in (q .0, omega (arith, q .1, C .1))) noConstant;
         verbs = λ k l.
-            let w = by-number (λ (i : Item Verb). i .at < 4294967296) (v .0) (λ i m. let q = verbs .0 i m in omega (arith, q .1, verbs .1, C .1)) (record { kinds = []; label = [] }) k l in
+            let w = by-number (λ (i : Item Verb). i .at < 4294967296) (v .0) (λ i m. let q = verbs .0 i m in omega (arith, q .1, verbs .1, C .1))
+            (record { kinds = []; label = [] }) k l in
             omega (arith, w .1, w .2);
         fewConstants = C .2;
         fewVerbs = verbs .2;
@@ -143,23 +147,22 @@ module _ (s : List ℕ) (bytes : (i : ℕ) → byteAt s i < 256) where
 
 -- ---- as the code takes it: x is what the reader handed out
 
-held-front : (n : ℕ) (l : List ℕ) → take (length l) (held n l) ≡ l
-unfolding held
-held-front n l = take-at l (replicate (n - length l) 0) (length l) refl
-
-held-long : (n : ℕ) (l : List ℕ) → length l ≤ length (held n l)
-unfolding held
-held-long n l = omega (arith, length-append l (replicate (n - length l) 0))
-
 front-of : {A : Type 0} (n : ℕ) (js : List (Item A)) → take (length js) (held n (offsets js)) ≡ offsets js
 front-of n js = ap (λ (k : ℕ). take k (held n (offsets js))) (sym (length-map js (λ i. i .at))) ∙ held-front n (offsets js)
+
+-- the first numbers of a list that the reader handed out, and the model's offsets
+pub record Laid (ats : List ℕ) (count : ℕ) (model : List ℕ) : Type 0 where
+  pub near : Near ats count
+  pub few : count ≤ 255
+  pub counted : count ≡ length model
+  pub front : take count ats ≡ model
 
 module _ (s : List ℕ) (x : Index) (h : x ≡ handedOut (readPolicy s)) where
   -- what holds of the index of every reading of s
   to-index : (Q : Index → Type 0) → ((r : Reading Accepted) → readPolicy s ≡ r → Q (handedOut r)) → Q x
   to-index Q f = subst Q (sym h) (f (readPolicy s) refl)
 
-  pub constants-front : take (x .constants) (x .«constant_at») ≡ constantOffsets (readPolicy s)
+  constants-front : take (x .constants) (x .«constant_at») ≡ constantOffsets (readPolicy s)
   unfolding handedOut indexOf refusal constantOffsets
   constants-front = go (readPolicy s) h
     where
@@ -167,7 +170,7 @@ module _ (s : List ℕ) (x : Index) (h : x ≡ handedOut (readPolicy s)) where
       go (got A e) i = subst (λ (y : Index). take (y .constants) (y .«constant_at») ≡ offsets (A .constants)) (sym i) (front-of maxConstants (A .constants))
       go (refused n p) i = subst (λ (y : Index). take (y .constants) (y .«constant_at») ≡ []) (sym i) refl
 
-  pub verbs-front : take (x .verbs) (x .«verb_at») ≡ verbOffsets (readPolicy s)
+  verbs-front : take (x .verbs) (x .«verb_at») ≡ verbOffsets (readPolicy s)
   unfolding handedOut indexOf refusal verbOffsets
   verbs-front = go (readPolicy s) h
     where
@@ -175,7 +178,7 @@ module _ (s : List ℕ) (x : Index) (h : x ≡ handedOut (readPolicy s)) where
       go (got A e) i = subst (λ (y : Index). take (y .verbs) (y .«verb_at») ≡ offsets (A .verbs)) (sym i) (front-of maxVerbs (A .verbs))
       go (refused n p) i = subst (λ (y : Index). take (y .verbs) (y .«verb_at») ≡ []) (sym i) refl
 
-  pub constants-count : x .constants ≡ length (constantOffsets (readPolicy s))
+  constants-count : x .constants ≡ length (constantOffsets (readPolicy s))
   unfolding handedOut indexOf refusal constantOffsets
   constants-count = go (readPolicy s) h
     where
@@ -183,7 +186,7 @@ module _ (s : List ℕ) (x : Index) (h : x ≡ handedOut (readPolicy s)) where
       go (got A e) i = ap (λ (y : Index). y .constants) i ∙ sym (length-map (A .constants) (λ i. i .at))
       go (refused n p) i = ap (λ (y : Index). y .constants) i
 
-  pub verbs-count : x .verbs ≡ length (verbOffsets (readPolicy s))
+  verbs-count : x .verbs ≡ length (verbOffsets (readPolicy s))
   unfolding handedOut indexOf refusal verbOffsets
   verbs-count = go (readPolicy s) h
     where
@@ -200,7 +203,8 @@ module _ (s : List ℕ) (x : Index) (h : x ≡ handedOut (readPolicy s)) where
         go (got A e) i =
             let S = accepted-stand s bytes A e i in
             let l = held-long maxConstants (offsets (A .constants)) in
-            let at : (k : ℕ) → getD (held maxConstants (offsets (A .constants))) k 0 ≡ getD (offsets (A .constants)) k 0 = held-at maxConstants (offsets (A .constants)) in (
+            let at : (k : ℕ) → getD (held maxConstants (offsets (A .constants))) k 0 ≡ getD (offsets (A .constants)) k 0 = held-at maxConstants
+            (offsets (A .constants)) in (
               S .fewConstants,
               record {
                 near = record {
@@ -210,9 +214,16 @@ module _ (s : List ℕ) (x : Index) (h : x ≡ handedOut (readPolicy s)) where
                 long = λ k q. let c = S .constants k q in subst (λ (p : ℕ). 1 ≤ byteAt s p) (sym (at k ∙ c .2)) (c .1 .0 .1);
               },
             )
-        go (refused n p) i = (omega arith, record { near = record { within = omega arith; small = λ k q. absurd (omega arith) }; long = λ k q. absurd (omega arith) })
+        go (refused n p) i = (
+          omega arith,
+          record {
+            near = record { within = omega arith; small = λ k q. absurd (omega arith) };
+            long = λ k q. absurd
+                (omega arith);
+          },
+        )
 
-    pub verbs-near : (x .verbs ≤ 64) × Near (x .«verb_at») (x .verbs)
+    verbs-near : (x .verbs ≤ 64) × Near (x .«verb_at») (x .verbs)
     unfolding handedOut indexOf refusal
     verbs-near = to-index (λ (y : Index). (y .verbs ≤ 64) × Near (y .«verb_at») (y .verbs)) go
       where
@@ -227,6 +238,13 @@ module _ (s : List ℕ) (x : Index) (h : x ≡ handedOut (readPolicy s)) where
               },
             )
         go (refused n p) i = (omega arith, record { within = omega arith; small = λ k q. absurd (omega arith) })
+
+    -- so both lists of offsets can be laid out: they are near, and the model's
+    pub constants-laid : Laid (x .«constant_at») (x .constants) (constantOffsets (readPolicy s))
+    constants-laid = let w = constants-stand in record { near = w .1 .near; few = w .0; counted = constants-count; front = constants-front }
+
+    pub verbs-laid : Laid (x .«verb_at») (x .verbs) (verbOffsets (readPolicy s))
+    verbs-laid = let w = verbs-near in record { near = w .1; few = (let l = w .0 in omega arith); counted = verbs-count; front = verbs-front }
 
     -- the number that the search by offsets finds is the model's
     pub number-is : (kind : ℕ) (label : List ℕ) → hasLabel kind ≡ true → (z : ℕ)
@@ -248,12 +266,14 @@ module _ (s : List ℕ) (x : Index) (h : x ≡ handedOut (readPolicy s)) where
         go (got A e) i = first-same _ _ 0 (length (A .constants)) test ∙ sym (ap (λ (r : Reading Accepted). numberIn r kind label) i ∙ choose-true _ noNumber k)
           where
             test : (j : ℕ) → 0 ≤ j → j < 0 + length (A .constants)
-                → namedAt s (kindTable (contents (A .constants))) kind label j (getD (held maxConstants (offsets (A .constants))) j 0) ≡ isNamed kind label (getD (contents (A .constants)) j noConstant)
+                → namedAt s (kindTable (contents (A .constants))) kind label j (getD (held maxConstants (offsets (A .constants))) j 0) ≡ isNamed kind label
+                (getD (contents (A .constants)) j noConstant)
             test j a l =
                 let c = accepted-stand s bytes A e i .constants j (omega arith) in
                 let at : getD (held maxConstants (offsets (A .constants))) j 0 ≡ c .0 .at = held-at maxConstants (offsets (A .constants)) j ∙ c .2 in
                 let is : getD (contents (A .constants)) j noConstant ≡ constantAt s (c .0 .at) = c .3 ∙ c .1 .0 .0 in
-                ap₂ (λ (n p : ℕ). eqb n kind && alike (bytesAt (byteAt s p - 1) s (p + 2)) label) (kind-is (contents (A .constants)) j ∙ ap (λ (c : Constant). c .kind) is) at
+                ap₂ (λ (n p : ℕ). eqb n kind && alike (bytesAt (byteAt s p - 1) s (p + 2)) label)
+                (kind-is (contents (A .constants)) j ∙ ap (λ (c : Constant). c .kind) is) at
                 ∙ same (byteAt s (c .0 .at + 1)) _ _ (λ e. sym (choose-true _ [] (ap hasLabel e ∙ k)))
                 ∙ ap (isNamed kind label) (sym is)
         go (refused n p) i = sym (ap (λ (r : Reading Accepted). numberIn r kind label) i)
