@@ -6,9 +6,15 @@
 #include <stddef.h>
 #include <stdint.h>
 
+/* What a derivation had to do, whoever does it: facts given by a rule, known ones too, and look-ups of facts by what is known of them. */
+typedef struct {
+    uint64_t fired, looked_up;
+} peer_work;
+
 typedef struct {
     bool full; /* more facts than there is room for */
     uint32_t facts, rounds;
+    peer_work work;
 } peer_report;
 
 /* The fact table of an accepted policy and request in the lent buffer, then 0. */

@@ -105,7 +105,8 @@ module _ {policy request : List ℕ} {x : Index} {A : Accepted} {q : syntax.Requ
   unfolding indexOf
   reach-marks asked marks of reaches =
       subst (λ (𝒜 : List Assertion). Marks (reach W 𝒜 (issuers (q .node) W)) marks) all-read
-      (subst (λ (y : Index). IsReach policy (take (y .assertions) (y .«assertion_at»)) (y .kinds) asked marks) (sym is) reaches W (issuers (q .node) W) reads of)
+      (subst (λ (y : Index). IsReach policy (take (y .assertions) (y .«assertion_at»)) (y .kinds) asked marks) (sym is) reaches W
+      (issuers (q .node) W) reads of)
 
   -- what the call tells then
   pub accepted-words : (marks : List ℕ) → whoseWords policy request marks ≡ reached 0 0 0 (marksFrom (reachOf P q) (length marks) 0)

@@ -56,19 +56,22 @@ module _ (policy request : List ℕ) (x : Index) (i : x ≡ policies.handedOut (
   handed : r ≡ requests.handedOut (policyOf A .verbs) reading
   handed = let w = policy-got in means (policyOf A .constants) (policyOf A .verbs) (tables policy (w .0) (w .1) (w .2) x i)
 
-  accepted-reading : (vs : List Verb) (y : Reading syntax.Request) → requests.handedOut vs y .refusal ≡ 0 → ((n p : ℕ) → y ≡ refused n p → n ≡ 0 → ⊥) → (q : syntax.Request) × (e : ℕ) × (y ≡ got q e)
+  accepted-reading : (vs : List Verb) (y : Reading syntax.Request) → requests.handedOut vs y .refusal ≡ 0 → ((n p : ℕ) → y ≡ refused n p → n ≡ 0 → ⊥)
+      → (q : syntax.Request) × (e : ℕ) × (y ≡ got q e)
   unfolding requests.handedOut
   accepted-reading vs (got q e) z f = (q, e, refl)
   accepted-reading vs (refused n p) z f = absurd (f n p refl z)
 
-  refused-reading : (vs : List Verb) (y : Reading syntax.Request) → (requests.handedOut vs y .refusal ≡ 0 → ⊥) → (n p : ℕ) → n ≡ requests.handedOut vs y .refusal → p ≡ requests.handedOut vs y .place → y ≡ refused n p
+  refused-reading : (vs : List Verb) (y : Reading syntax.Request) → (requests.handedOut vs y .refusal ≡ 0 → ⊥) → (n p : ℕ)
+      → n ≡ requests.handedOut vs y .refusal → p ≡ requests.handedOut vs y .place → y ≡ refused n p
   unfolding requests.handedOut
   refused-reading vs (got q e) z n p a b = absurd (z refl)
   refused-reading vs (refused m k) z n p a b = λ i. refused (sym a i) (sym b i)
 
   -- a refusal has a number
   some-number : (n p : ℕ) → reading ≡ refused n p → n ≡ 0 → ⊥
-  some-number n p e z = subst (λ (m : ℕ). T (member m ofRequest)) z (subst (RefusesBy ofRequest) e (request-numbers (policyOf A .constants) (policyOf A .verbs) request))
+  some-number n p e z = subst (λ (m : ℕ). T (member m ofRequest)) z
+      (subst (RefusesBy ofRequest) e (request-numbers (policyOf A .constants) (policyOf A .verbs) request))
 
   pub takes : r .refusal ≡ 0 → length request ≤ longest → (B : Accepted) × (q : syntax.Request) × Takes policy request x r B q
   takes z s =
@@ -81,7 +84,8 @@ module _ (policy request : List ℕ) (x : Index) (i : x ≡ policies.handedOut (
       refused-reading (policyOf A .verbs) reading (λ e. z (ap (λ (r : Request). r .refusal) handed ∙ e)) (r .refusal) (r .place)
       (ap (λ (r : Request). r .refusal) handed) (ap (λ (r : Request). r .place) handed)
 
-  pub request-call : (r .refusal ≡ 0 → ⊥) → (facts answers : List ℕ) → Call policy request facts answers (report (refusal (r .refusal) 2 (r .place)) 0 0 0 facts answers)
+  pub request-call : (r .refusal ≡ 0 → ⊥) → (facts answers : List ℕ) → Call policy request facts answers
+      (report (refusal (r .refusal) 2 (r .place)) 0 0 0 facts answers)
   unfolding decision decisionBy decisionOn
   request-call z facts answers =
       let w = policy-got in

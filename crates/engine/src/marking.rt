@@ -30,7 +30,8 @@ fn mark(reach: &[u8], marks: &mut [u8])
 // Policy and request are accepted.
 fn mark_reach(policy: &[u8], x: Index, request: &[u8], marks: &mut [u8])
     requires { ⌜ ((A : Accepted) × (q : syntax.Request) × Accepts (now policy) (now request) x A q) × (length (now request) ≤ longest) ⌝ }
-    ensures { λ _. ⌜ ((A : Accepted) (q : syntax.Request) → Accepts (now (policy .entry)) (now (request .entry)) x A q → now (marks .exit) ≡ marksFrom (reachOf (policyOf A) q) (length (now (marks .entry))) 0) ⌝ }
+    ensures { λ _. ⌜ ((A : Accepted) (q : syntax.Request) → Accepts (now (policy .entry)) (now (request .entry)) x A q → now (marks .exit) ≡ marksFrom
+        (reachOf (policyOf A) q) (length (now (marks .entry))) 0) ⌝ }
 {
     let reach = steps::reached(policy, x, steps::asked(x, request));
     mark(&reach, marks);

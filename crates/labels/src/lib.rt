@@ -1,9 +1,13 @@
-// Labels: the one place of the code that says which are alike.
+// Labels: the one place of the code that says which are alike, and into which bucket one falls.
 ghost use mathlib.Core.Path.{_≡_};
-ghost use Prim.Native.Nat.{_+_, _≤_};
+ghost use Prim.Native.Nat.{_+_, _<_, _≤_};
+ghost use lib.ListN.{length};
 ghost use Rattle.model.specs.Bytes.{bytesAt};
 ghost use Rattle.model.specs.Values.{alike};
 ghost use Rattle.wire.specs.Budget.{farthest};
+ghost use Rattle.labels.specs.Hash.{buckets, hashOf};
+
+pub const BUCKETS: usize = 251;
 
 // The label of n bytes that stands at p of the left slice is alike to that at q of the right one. A byte past the end reads 0.
 pub fn alike(left: &[u8], p: usize, right: &[u8], q: usize, n: usize) -> bool
@@ -17,4 +21,18 @@ pub fn alike(left: &[u8], p: usize, right: &[u8], q: usize, n: usize) -> bool
         return alike(left, p + 1, right, q + 1, n - 1);
     }
     false
+}
+
+// The bucket of the label of n bytes that stands at p. Labels that are alike fall into one bucket.
+pub fn hash(s: &[u8], p: usize, n: usize) -> usize
+    requires { ⌜ p + n ≤ length (now s) ⌝ }
+    ensures { λ r. ⌜ (r ≡ hashOf (bytesAt n (now (s .entry)) p)) × (r < buckets) ⌝ }
+{
+    let mut h = 0;
+    let mut i = 0;
+    while i < n {
+        h = (33 * h + wire::byte(s, p + i)) % 65536;
+        i += 1;
+    }
+    h % BUCKETS
 }

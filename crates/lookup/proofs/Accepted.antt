@@ -2,7 +2,8 @@
 use mathlib.Core.Path.{_≡_, refl, sym, ap, ap₂, subst, _∙_}
 use mathlib.Core.Logic.{⊎-elim}
 use mathlib.Core.Bool.{Bool, true, false, not, _&&_}
-use mathlib.Core.List.{List, [], _∷_, _++_, map, List·Memᴰ, List·Memᴰ·head, List·Memᴰ·tail, List·Memᴰ·not-nil, List·Memᴰ·eq-of-singleton, List·Memᴰ·append-cases}
+use mathlib.Core.List.{List, [], _∷_, _++_, map, List·Memᴰ, List·Memᴰ·head, List·Memᴰ·tail, List·Memᴰ·not-nil, List·Memᴰ·eq-of-singleton}
+use mathlib.Core.List.{List·Memᴰ·append-cases}
 use Prim.Native.Nat.{ℕ, zero, suc, _+_, _-_, _*_, _≤_, _<_}
 use native.Mathlib.Decide.{decLt}
 use native.Mathlib.Omega.{arith}
@@ -17,7 +18,8 @@ use Rattle.model.specs.Values.{alike}
 use Rattle.model.specs.Bytes.{byteAt, u16At, bytesAt, choose, Reading, got, refused}
 use Rattle.model.specs.Readings.{itemEnd, hasLabel, constantAt}
 use Rattle.model.specs.Forms.{constantForm, verbForm}
-use Rattle.model.specs.Policies.{Item, contents, offsets, itemsFrom, listAt, constantItem, verbItem, Accepted, assertionsFrom, verbsFrom, constantsFrom, computedPolicy, readPolicy}
+use Rattle.model.specs.Policies.{Item, contents, offsets, itemsFrom, listAt, constantItem, verbItem, Accepted, assertionsFrom, verbsFrom, constantsFrom}
+use Rattle.model.specs.Policies.{computedPolicy, readPolicy}
 use Rattle.model.proofs.ReadFacts.{never, choose-yes, choose-no, andThen-got, headed-got, ended-got}
 use Rattle.model.proofs.PolicyReader.{policy-is}
 use Rattle.wire.proofs.Reading.{choose-true, choose-false}
@@ -85,7 +87,8 @@ by-number Q (i ∷ js) h d (suc k) l = by-number Q js (λ j m. h j (List·Memᴰ
 
 -- ---- the two readers
 
-item-got : {A : Type 0} (form alike : Bool) (v x : A) (at f e : ℕ) → choose form (choose alike (refused 4 at) (got v f)) (refused 3 at) ≡ got x e → (x ≡ v) × (e ≡ f)
+item-got : {A : Type 0} (form alike : Bool) (v x : A) (at f e : ℕ) → choose form (choose alike (refused 4 at) (got v f)) (refused 3 at) ≡ got x e → (x ≡ v)
+    × (e ≡ f)
 item-got form alike v x at f e h =
     let b = choose-no alike _ 4 at x e (choose-yes form _ 3 at x e h .1) .1 in
     let p : x ≡ v = cc in
@@ -133,9 +136,11 @@ module _ (s : List ℕ) (bytes : (i : ℕ) → byteAt s i < 256) where
       let C = list-stands (constantItem s) ConstantAt constant-sound s 1 maxConstants 5 (c .0) (c .1) (c .2) in
       let verbs = list-stands (verbItem s) (λ (at : ℕ) (v : Verb). Unit {0}) verb-sound s 0 maxVerbs (c .1) (v .0) (v .1) (v .2) in
       subst Stand is (record {
-        constants = by-number (λ (i : Item Constant). ConstantAt (i .at) (i .of) × (i .at < 4294967296)) (c .0) (λ i m. let q = C .0 i m in (q .0, omega (arith, q .1, C .1))) noConstant;
+        constants = by-number (λ (i : Item Constant). ConstantAt (i .at) (i .of) × (i .at < 4294967296)) (c .0)
+            (λ i m. let q = C .0 i m in (q .0, omega (arith, q .1, C .1))) noConstant;
         verbs = λ k l.
-            let w = by-number (λ (i : Item Verb). i .at < 4294967296) (v .0) (λ i m. let q = verbs .0 i m in omega (arith, q .1, verbs .1, C .1)) (record { kinds = []; label = [] }) k l in
+            let w = by-number (λ (i : Item Verb). i .at < 4294967296) (v .0) (λ i m. let q = verbs .0 i m in omega (arith, q .1, verbs .1, C .1))
+            (record { kinds = []; label = [] }) k l in
             omega (arith, w .1, w .2);
         fewConstants = C .2;
         fewVerbs = verbs .2;
@@ -200,7 +205,8 @@ module _ (s : List ℕ) (x : Index) (h : x ≡ handedOut (readPolicy s)) where
         go (got A e) i =
             let S = accepted-stand s bytes A e i in
             let l = held-long maxConstants (offsets (A .constants)) in
-            let at : (k : ℕ) → getD (held maxConstants (offsets (A .constants))) k 0 ≡ getD (offsets (A .constants)) k 0 = held-at maxConstants (offsets (A .constants)) in (
+            let at : (k : ℕ) → getD (held maxConstants (offsets (A .constants))) k 0 ≡ getD (offsets (A .constants)) k 0 = held-at maxConstants
+            (offsets (A .constants)) in (
               S .fewConstants,
               record {
                 near = record {
@@ -210,7 +216,14 @@ module _ (s : List ℕ) (x : Index) (h : x ≡ handedOut (readPolicy s)) where
                 long = λ k q. let c = S .constants k q in subst (λ (p : ℕ). 1 ≤ byteAt s p) (sym (at k ∙ c .2)) (c .1 .0 .1);
               },
             )
-        go (refused n p) i = (omega arith, record { near = record { within = omega arith; small = λ k q. absurd (omega arith) }; long = λ k q. absurd (omega arith) })
+        go (refused n p) i = (
+          omega arith,
+          record {
+            near = record { within = omega arith; small = λ k q. absurd (omega arith) };
+            long = λ k q. absurd
+                (omega arith);
+          },
+        )
 
     pub verbs-near : (x .verbs ≤ 64) × Near (x .«verb_at») (x .verbs)
     unfolding handedOut indexOf refusal
@@ -248,12 +261,14 @@ module _ (s : List ℕ) (x : Index) (h : x ≡ handedOut (readPolicy s)) where
         go (got A e) i = first-same _ _ 0 (length (A .constants)) test ∙ sym (ap (λ (r : Reading Accepted). numberIn r kind label) i ∙ choose-true _ noNumber k)
           where
             test : (j : ℕ) → 0 ≤ j → j < 0 + length (A .constants)
-                → namedAt s (kindTable (contents (A .constants))) kind label j (getD (held maxConstants (offsets (A .constants))) j 0) ≡ isNamed kind label (getD (contents (A .constants)) j noConstant)
+                → namedAt s (kindTable (contents (A .constants))) kind label j (getD (held maxConstants (offsets (A .constants))) j 0) ≡ isNamed kind label
+                (getD (contents (A .constants)) j noConstant)
             test j a l =
                 let c = accepted-stand s bytes A e i .constants j (omega arith) in
                 let at : getD (held maxConstants (offsets (A .constants))) j 0 ≡ c .0 .at = held-at maxConstants (offsets (A .constants)) j ∙ c .2 in
                 let is : getD (contents (A .constants)) j noConstant ≡ constantAt s (c .0 .at) = c .3 ∙ c .1 .0 .0 in
-                ap₂ (λ (n p : ℕ). eqb n kind && alike (bytesAt (byteAt s p - 1) s (p + 2)) label) (kind-is (contents (A .constants)) j ∙ ap (λ (c : Constant). c .kind) is) at
+                ap₂ (λ (n p : ℕ). eqb n kind && alike (bytesAt (byteAt s p - 1) s (p + 2)) label)
+                (kind-is (contents (A .constants)) j ∙ ap (λ (c : Constant). c .kind) is) at
                 ∙ same (byteAt s (c .0 .at + 1)) _ _ (λ e. sym (choose-true _ [] (ap hasLabel e ∙ k)))
                 ∙ ap (isNamed kind label) (sym is)
         go (refused n p) i = sym (ap (λ (r : Reading Accepted). numberIn r kind label) i)

@@ -1,6 +1,7 @@
 pub mod FormFacts
 pub mod ListFacts
 pub mod ItemFacts
+pub mod Seeking
 pub mod AssertionLaws
 pub mod TableLaws
 pub mod TableFacts

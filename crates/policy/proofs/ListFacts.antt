@@ -27,17 +27,17 @@ unfolding endsBy
 ends-more g zero p h = absurd (h refl)
 ends-more g (suc k) p h = rw sub-one
 
-ends-after : (g : ℕ → ℕ) → ((x : ℕ) → x < g x) → (k p : ℕ) → p ≤ endsBy g k p
+pub ends-after : (g : ℕ → ℕ) → ((x : ℕ) → x < g x) → (k p : ℕ) → p ≤ endsBy g k p
 unfolding endsBy
 ends-after g up zero p = omega arith
 ends-after g up (suc k) p = let h = ends-after g up k (g p) in let u = up p in omega arith
 
-ends-snoc : (g : ℕ → ℕ) (k p : ℕ) → endsBy g (suc k) p ≡ g (endsBy g k p)
+pub ends-snoc : (g : ℕ → ℕ) (k p : ℕ) → endsBy g (suc k) p ≡ g (endsBy g k p)
 unfolding endsBy
 ends-snoc g zero p = refl
 ends-snoc g (suc k) p = ends-snoc g k (g p)
 
-item-up : (s : List ℕ) (x : ℕ) → x < itemEnd s x
+pub item-up : (s : List ℕ) (x : ℕ) → x < itemEnd s x
 unfolding itemEnd
 item-up s x = omega arith
 
@@ -58,7 +58,7 @@ ends-step s k p r q h e l = rw (item-end s p r e, ends-more (itemEnd s) k p h) l
 -- ---- one item more
 
 module _ {A : Type 0} (of : ℕ → A) (next : ℕ → ℕ) where
-  items-snoc : (k p : ℕ) → itemsAt of next k p ++ record { at = endsBy next k p; of = of (endsBy next k p) } ∷ [] ≡ itemsAt of next (suc k) p
+  pub items-snoc : (k p : ℕ) → itemsAt of next k p ++ record { at = endsBy next k p; of = of (endsBy next k p) } ∷ [] ≡ itemsAt of next (suc k) p
   unfolding itemsAt endsBy
   items-snoc zero p = refl
   items-snoc (suc k) p = ap (λ (l : List (Item A)). record { at = p; of = of p } ∷ l) (items-snoc k (next p))

@@ -2,3 +2,4 @@ pub mod Steps
 pub mod Items
 pub mod Index
 pub mod Assertions
+pub mod Seeking

@@ -1,7 +1,7 @@
-pub mod Searching
-pub mod Noting
+pub mod Putting
 pub mod Facts
-pub mod Feeding
 pub mod Turn
 pub mod Loop
+pub mod Ending
 pub mod Saturating
+pub mod Ordering

@@ -1,15 +1,14 @@
 -- Matching instead of trying all bindings: what a match goes on with stands for exactly the bindings that agree.
 use mathlib.Core.Path.{_≡_, refl, sym, ap, ap₂, subst, _∙_}
 use mathlib.Core.Logic.{_↔_, _⊎_, inl, inr, ⊎-elim, _≢_}
-use mathlib.Core.List.{List, [], _∷_, _++_, map, head-eq-of-cons-eq, tail-eq-of-cons-eq, nil≢cons, cons≢nil}
-use mathlib.Core.Bool.{Bool, true, false, cond, not}
+use mathlib.Core.List.{List, [], _∷_, map, head-eq-of-cons-eq, tail-eq-of-cons-eq, nil≢cons, cons≢nil}
+use mathlib.Core.Bool.{Bool, true, false, cond}
 use mathlib.Core.Option.{Option, none, some}
-use Prim.Native.Nat.{ℕ, zero, suc, _≤_, _<_}
+use Prim.Native.Nat.{ℕ, _<_}
 use native.Mathlib.Decide.{ℕ-discrete}
-use native.Mathlib.Omega.{arith}
-use lib.ListN.{length, getD, set, length-set}
+use lib.ListN.{length, set, length-set}
 use lib.Seq.{getD-set-same, getD-set-other}
-use lib.Dec.{T, T-not, eqb, eqb→eq, eqb-refl}
+use lib.Dec.{T, eqb, eqb→eq}
 use Rattle.model.specs.Limits.{unbound}
 use Rattle.model.specs.Syntax.{Expr, con, var, today}
 use Rattle.model.specs.Values.{bound}
@@ -37,7 +36,8 @@ fresh-in σ θ v x l e u w = go (ℕ-discrete w v)
     go (no q) = ⊎-elim (λ h. inl (getD-set-other σ v w x unbound q ∙ h)) (λ h. inr (getD-set-other σ v w x unbound q ∙ h)) (u w)
 
 fresh-of : (σ θ : List ℕ) (v x : ℕ) → v < length σ → x ≢ unbound → at σ v ≡ unbound → Under (set σ v x) θ → Under σ θ × (at θ v ≡ x)
-fresh-of σ θ v x l n z u = (λ w. go w (ℕ-discrete w v), ⊎-elim (λ h. absurd (n (sym (getD-set-same σ v x unbound l) ∙ h))) (λ h. sym h ∙ getD-set-same σ v x unbound l) (u v))
+fresh-of σ θ v x l n z u =
+    (λ w. go w (ℕ-discrete w v), ⊎-elim (λ h. absurd (n (sym (getD-set-same σ v x unbound l) ∙ h))) (λ h. sym h ∙ getD-set-same σ v x unbound l) (u v))
   where
     go : (w : ℕ) → Dec (w ≡ v) → (at σ w ≡ unbound) ⊎ (at σ w ≡ at θ w)
     go w (yes q) = inl (ap (at σ) q ∙ z)
@@ -102,6 +102,7 @@ fits-sized [] (x ∷ xs) σ = tt
 fits-sized (e ∷ es) [] σ = tt
 fits-sized (e ∷ es) (x ∷ xs) σ = go (fit σ e x) (fit-sized σ e x) (λ τ. fits-sized es xs τ)
   where
-    go : (o : Option (List ℕ)) → Sized (length σ) o → ((τ : List ℕ) → Sized (length τ) (fits τ es xs)) → Sized (length σ) (elim o [ none ↦ none | some τ ↦ fits τ es xs ])
+    go : (o : Option (List ℕ)) → Sized (length σ) o → ((τ : List ℕ) → Sized (length τ) (fits τ es xs))
+        → Sized (length σ) (elim o [ none ↦ none | some τ ↦ fits τ es xs ])
     go none s ih = tt
     go (some τ) s ih = subst (λ (i : ℕ). Sized i (fits τ es xs)) s (ih τ)

@@ -13,7 +13,8 @@ pub least : (P Q : ℕ → Type 0) (k : ℕ) → ((i : ℕ) → i < k → P i �
 least P Q zero s = inl (λ i h. absurd (not-suc-le-zero h))
 least P Q (suc k) s = go (least P Q k (λ i h. s i (omega arith))) (s k (omega arith))
   where
-    go : ((i : ℕ) → i < k → P i) ⊎ ((j : ℕ) × (j < k) × Q j × ((i : ℕ) → i < j → P i)) → P k ⊎ Q k → ((i : ℕ) → i < suc k → P i) ⊎ ((j : ℕ) × (j < suc k) × Q j × ((i : ℕ) → i < j → P i))
+    go : ((i : ℕ) → i < k → P i) ⊎ ((j : ℕ) × (j < k) × Q j × ((i : ℕ) → i < j → P i)) → P k ⊎ Q k
+        → ((i : ℕ) → i < suc k → P i) ⊎ ((j : ℕ) × (j < suc k) × Q j × ((i : ℕ) → i < j → P i))
     go (inr r) x = inr (r .0, (let h : r .0 < k = r .1 in omega arith), r .2, r .3)
     go (inl ps) (inr q) = inr (k, omega arith, q, ps)
     go (inl ps) (inl p) = inl (λ i h. pick i h (ℕ-discrete i k))

@@ -1,5 +1,6 @@
+pub mod Rows
 pub mod Matching
-pub mod Instances
+pub mod Patterns
 pub mod Cond
 pub mod Uses
 pub mod Rounds

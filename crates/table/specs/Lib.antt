@@ -1,4 +1,3 @@
 pub mod Table
-pub mod Words
 pub mod Merging
-pub mod Fresh
+pub mod Listed

@@ -23,13 +23,15 @@ lay-requires : tie.Need-lay-requires
 lay-requires c κs =
     let read = c .before .before .before in
     let known = read .before .before in
-    constants-stand (known .before .args .policy .now) (read .read .result) (read .read .ensures) (λ i. omega (arith, known .shared-slice-known .given i)) .1 .near
+    constants-stand (known .before .args .policy .now) (read .read .result) (read .read .ensures)
+    (λ i. omega (arith, known .shared-slice-known .given i)) .1 .near
 
 cast-result : tie.Need-cast-result
 cast-result c =
     let read = c .before .before .before .before .before .before .before in
     let known = read .before .before in
-    let few = constants-stand (known .before .args .policy .now) (read .read .result) (read .read .ensures) (λ i. omega (arith, known .shared-slice-known .given i)) .0 in
+    let few = constants-stand (known .before .args .policy .now) (read .read .result) (read .read .ensures)
+    (λ i. omega (arith, known .shared-slice-known .given i)) .0 in
     record { fits = omega (arith, few) }
 
 same-length : tie.Need-same-length
@@ -41,8 +43,11 @@ returns c =
     let read = lay .before .before .before .before in
     let entry = read .before .before .before in
     let s = entry .args .policy .now in
-    let x = read .read .result in
-    (constants-count s x (read .read .ensures), lay .lay .ensures ∙ ap (λ (l : List ℕ). laid l (entry .args .offsets .now)) (constants-front s x (read .read .ensures)))
+    let x = read .read .result in (
+      constants-count s x (read .read .ensures),
+      lay .lay .ensures ∙ ap (λ (l : List ℕ). laid l (entry .args .offsets .now))
+          (constants-front s x (read .read .ensures)),
+    )
 
 pub constants-spec : {M : Type 1} → statement M
 constants-spec =

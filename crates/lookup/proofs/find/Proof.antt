@@ -29,7 +29,8 @@ first-requires : tie.Need-first-requires
 first-requires c κs =
     let read = c .before .before .before .before in
     let known = read .before .before .before .before in
-    let stand = constants-stand (known .before .args .policy .now) (read .read .result) (read .read .ensures) (λ i. omega (arith, known .shared-slice-known .given i)) in
+    let stand = constants-stand (known .before .args .policy .now) (read .read .result) (read .read .ensures)
+    (λ i. omega (arith, known .shared-slice-known .given i)) in
     let all : read .read .result .constants ≡ 0 + read .read .result .constants = omega arith in
     subst (λ (n : ℕ). (n ≤ 255) × Standing (known .before .args .policy .now) (read .read .result .«constant_at») n) all stand
 

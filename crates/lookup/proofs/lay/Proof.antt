@@ -74,7 +74,8 @@ returns c =
     let fewer = c .before .before .fewer .ensures in
     let loop = c .before .loop in
     let all : loop .i ≡ min (entry .args .count) (length (entry .args .offsets .now)) = omega (arith, fewer) in
-    loop .inv .1 ∙ ap (over (entry .args .ats .now) (entry .args .offsets .now)) all ∙ over-all (entry .args .ats .now) (entry .args .offsets .now) (entry .args .count) (entry .pre .within)
+    loop .inv .1 ∙ ap (over (entry .args .ats .now) (entry .args .offsets .now)) all ∙ over-all (entry .args .ats .now) (entry .args .offsets .now)
+    (entry .args .count) (entry .pre .within)
 
 pub lay-spec : {M : Type 1} → statement M
 lay-spec =

@@ -29,7 +29,8 @@ cast-result : tie.Need-cast-result
 cast-result c =
     let read = c .before .before .before .before .before .before .before in
     let known = read .before .before in
-    let few = verbs-near (known .before .args .policy .now) (read .read .result) (read .read .ensures) (λ i. omega (arith, known .shared-slice-known .given i)) .0 in
+    let few = verbs-near (known .before .args .policy .now) (read .read .result) (read .read .ensures)
+    (λ i. omega (arith, known .shared-slice-known .given i)) .0 in
     record { fits = omega (arith, few) }
 
 same-length : tie.Need-same-length

@@ -62,8 +62,10 @@ returns-2 c =
     let args = entry .args in
     let d = read .read in
     let got = policy-got (args .policy .now) (args .request .now) (args .x) (entry .pre .0) (entry .pre .1) (d .result) (d .ensures .0) in
-    let refused = reading-refused (args .policy .now) (args .request .now) (args .x) (entry .pre .0) (entry .pre .1) (d .result) (d .ensures .0) (search needs) in
-    let words = sym (request-words (args .policy .now) (args .request .now) (args .marks .now) (got .0) (got .1) (d .result .refusal) (d .result .place) (got .2) refused) in
+    let refused = reading-refused (args .policy .now) (args .request .now) (args .x) (entry .pre .0) (entry .pre .1) (d .result) (d .ensures .0)
+    (search needs) in
+    let words = sym (request-words (args .policy .now) (args .request .now) (args .marks .now) (got .0) (got .1) (d .result .refusal) (d .result .place)
+    (got .2) refused) in
     (c .refused2 .ensures ∙ ap refusalOf words, ap (λ (κ : Reached). κ .marks) words)
 
 pub accepted-spec : {M : Type 1} → statement M

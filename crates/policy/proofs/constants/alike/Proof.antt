@@ -16,11 +16,38 @@ alike-spec = tie.close (tie.spec
     (λ c. let h = c .before .before .pre .1 in omega (arith, constant-within _ _ h, constant-two _ _ h))
     (λ c κs. let h = c .before .before .pre .1 in omega (arith, constant-within _ _ h, constant-two _ _ h))
     (λ c κs. search needs)
-    (λ c κs. let h = c .before .before .before .before .before .before .pre .1 in (c .before .before .before .before .before .before .pre .0, constant-within _ _ h, constant-two _ _ h))
-    (λ c. alike-labels _ _ _ _ (sym (c .before .before .before .before .before .byte .ensures .0) ∙ c .before .before .before .if1 .taken ∙ c .before .before .before .before .byte2 .ensures .0) (ap hasLabel (sym (c .before .before .before .before .before .byte .ensures .0)) ∙ via (c .before .before .has-label .ensures) (c .before .if2 .taken)) (c .same-label .ensures))
-    (λ c. let h = c .before .before .before .before .before .before .pre .1 in omega (arith, constant-within _ _ h, number-five _ _ h (ap hasLabel (sym (c .before .before .before .before .byte .ensures .0)) ∙ via (c .before .has-label .ensures) (c .if2 .left))))
-    (λ c κs. let h = c .before .before .before .before .before .before .pre .1 in omega (arith, constant-within _ _ h, number-five _ _ h (ap hasLabel (sym (c .before .before .before .before .byte .ensures .0)) ∙ via (c .before .has-label .ensures) (c .if2 .left))))
-    (λ c. let h = c .before .before .before .before .before .before .before .pre .1 in omega (arith, constant-within _ _ h, number-five _ _ h (ap hasLabel (sym (c .before .before .before .before .before .byte .ensures .0)) ∙ via (c .before .before .has-label .ensures) (c .before .if2 .left))))
-    (λ c κs. let h = c .before .before .before .before .before .before .before .pre .1 in omega (arith, constant-within _ _ h, number-five _ _ h (ap hasLabel (sym (c .before .before .before .before .before .byte .ensures .0)) ∙ via (c .before .before .has-label .ensures) (c .before .if2 .left))))
-    (λ c. alike-numbers _ _ _ _ (sym (c .before .before .before .before .before .before .byte .ensures .0) ∙ c .before .before .before .before .if1 .taken ∙ c .before .before .before .before .before .byte2 .ensures .0) (ap hasLabel (sym (c .before .before .before .before .before .before .byte .ensures .0)) ∙ via (c .before .before .before .has-label .ensures) (c .before .before .if2 .left)) (eqb-of _ _ _ _ (c .before .u32-at .ensures .0) (c .u32-at2 .ensures .0)))
+    (λ c κs. let h = c .before .before .before .before .before .before .pre .1 in
+    (c .before .before .before .before .before .before .pre .0, constant-within _ _ h, constant-two _ _ h))
+    (λ c. alike-labels _ _ _ _ (sym (c .before .before .before .before .before .byte .ensures .0) ∙ c .before .before .before .if1 .taken
+    ∙ c .before .before .before .before .byte2 .ensures .0)
+    (ap hasLabel (sym (c .before .before .before .before .before .byte .ensures .0)) ∙ via (c .before .before .has-label .ensures)
+    (c .before .if2 .taken)) (c .same-label .ensures))
+    (λ c. let h = c .before .before .before .before .before .before .pre .1 in omega (
+      arith,
+      constant-within _ _ h,
+      number-five _ _ h
+          (ap hasLabel (sym (c .before .before .before .before .byte .ensures .0)) ∙ via (c .before .has-label .ensures) (c .if2 .left)),
+    ))
+    (λ c κs. let h = c .before .before .before .before .before .before .pre .1 in omega (
+      arith,
+      constant-within _ _ h,
+      number-five _ _ h
+          (ap hasLabel (sym (c .before .before .before .before .byte .ensures .0)) ∙ via (c .before .has-label .ensures) (c .if2 .left)),
+    ))
+    (λ c. let h = c .before .before .before .before .before .before .before .pre .1 in omega (
+      arith,
+      constant-within _ _ h,
+      number-five _ _ h
+          (ap hasLabel (sym (c .before .before .before .before .before .byte .ensures .0)) ∙ via (c .before .before .has-label .ensures) (c .before .if2 .left)),
+    ))
+    (λ c κs. let h = c .before .before .before .before .before .before .before .pre .1 in omega (
+      arith,
+      constant-within _ _ h,
+      number-five _ _ h
+          (ap hasLabel (sym (c .before .before .before .before .before .byte .ensures .0)) ∙ via (c .before .before .has-label .ensures) (c .before .if2 .left)),
+    ))
+    (λ c. alike-numbers _ _ _ _ (sym (c .before .before .before .before .before .before .byte .ensures .0) ∙ c .before .before .before .before .if1 .taken
+    ∙ c .before .before .before .before .before .byte2 .ensures .0)
+    (ap hasLabel (sym (c .before .before .before .before .before .before .byte .ensures .0)) ∙ via (c .before .before .before .has-label .ensures)
+    (c .before .before .if2 .left)) (eqb-of _ _ _ _ (c .before .u32-at .ensures .0) (c .u32-at2 .ensures .0)))
     (λ c. kinds-differ _ _ _ (λ e. c .if1 .left (c .before .before .byte .ensures .0 ∙ e ∙ sym (c .before .byte2 .ensures .0)))))

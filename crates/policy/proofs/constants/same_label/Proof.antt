@@ -14,5 +14,6 @@ same-label-spec = tie.close (tie.spec
     (λ c. omega arith)
     (λ c. omega arith)
     (λ c κs. (omega arith, omega arith))
-    (λ c. rw (← c .before .before .before .byte .ensures .0, ← c .before .before .byte2 .ensures .0) (labels-same _ _ _ _ _ _ (omega arith) (c .same-bytes .ensures)))
+    (λ c. rw (← c .before .before .before .byte .ensures .0, ← c .before .before .byte2 .ensures .0)
+    (labels-same _ _ _ _ _ _ (omega arith) (c .same-bytes .ensures)))
     (λ c. rw (← c .before .before .byte .ensures .0, ← c .before .byte2 .ensures .0) (labels-differ _ _ _ _ _ (λ e. c .if1 .left (omega arith)))))

@@ -22,6 +22,12 @@ alike-spec = tie.close (tie.spec
     (λ c. let h = c .before .before .before .before .before .before .pre .1 in omega (arith, verb-within _ _ h, verb-label _ _ h))
     (λ c. let h = c .before .before .before .before .before .before .pre .1 in omega (arith, verb-within _ _ h, verb-label _ _ h))
     (λ c. let h = c .before .before .before .before .before .before .pre .1 in omega (arith, verb-within _ _ h, verb-label _ _ h))
-    (λ c κs. (let h = c .before .before .before .before .before .before .pre .1 in omega (arith, verb-within _ _ h, verb-label _ _ h), let h = c .before .before .before .before .before .before .pre .1 in omega (arith, verb-within _ _ h, verb-label _ _ h)))
+    (λ c κs. (
+      let h = c .before .before .before .before .before .before .pre .1 in omega
+          (arith, verb-within _ _ h, verb-label _ _ h),
+      let h = c .before .before .before .before .before .before .pre .1 in omega
+          (arith, verb-within _ _ h, verb-label _ _ h),
+    ))
     (λ c. verbs-alike _ _ _ _ (rw (← c .before .before .before .before .before .byte .ensures .0, ← c .before .before .before .before .byte2 .ensures .0, ← c .before .before .before .byte3 .ensures .0, ← c .before .before .byte4 .ensures .0) (labels-same _ _ _ _ _ _ (omega arith) (c .same-bytes .ensures))))
-    (λ c. let h = verb-label _ _ (c .before .before .before .before .before .before .pre .1) in verbs-alike _ _ _ _ (rw (← c .before .before .before .before .byte .ensures .0, ← c .before .before .before .byte2 .ensures .0, ← c .before .before .byte3 .ensures .0, ← c .before .byte4 .ensures .0) (labels-differ _ _ _ _ _ (λ e. c .if1 .left (omega arith))))))
+    (λ c. let h = verb-label _ _ (c .before .before .before .before .before .before .pre .1) in verbs-alike _ _ _ _
+    (rw (← c .before .before .before .before .byte .ensures .0, ← c .before .before .before .byte2 .ensures .0, ← c .before .before .byte3 .ensures .0, ← c .before .byte4 .ensures .0) (labels-differ _ _ _ _ _ (λ e. c .if1 .left (omega arith))))))

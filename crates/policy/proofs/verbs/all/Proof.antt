@@ -1,0 +1,39 @@
+-- `verbs::all` meets its contract: at first nothing is listed.
+use mathlib.Core.Path.{refl}
+use Prim.Native.Nat.{ℕ}
+use native.Mathlib.Omega.{arith}
+use lib.ListN.{length-replicate}
+use Rattle.model.specs.Readings.{itemEnd, endsBy, verbAt}
+use Rattle.policy.specs.Items.{itemsAt}
+use Rattle.policy.specs.Seeking.{verbBucket}
+use Rattle.policy.proofs.Seeking.{fresh}
+use borrow.Author.Needs.{needs}
+use Rattle.policy.proofs.verbs.all.Statement.{statement}
+use Rattle.policy.proofs.verbs.all.Tie as tie
+use Rattle.policy.proofs.verbs.all.Reads as reads
+use Rattle.policy.proofs.verbs.all.Lts as lts
+use Rattle.policy.proofs.verbs.items.Reads as items-reads
+
+slice-aggregate-items : tie.Need-slice-aggregate-items
+slice-aggregate-items c = search needs
+
+slice-aggregate-items-2 : tie.Need-slice-aggregate-items-2
+slice-aggregate-items-2 c = search needs
+
+items-requires : tie.Need-items-requires
+unfolding endsBy
+items-requires c κs =
+    let args = c .before .before .before .args in
+    let listed = fresh (verbAt (args .s .now)) (itemEnd (args .s .now)) verbBucket (args .at) 64 320 (omega arith) in
+    ((args .at, listed, refl), omega (arith, length-replicate {A = ℕ} 64 0), omega (arith, length-replicate {A = ℕ} 320 0), omega arith)
+
+returns : tie.Need-returns
+unfolding endsBy itemsAt
+returns c =
+    let args = c .before .before .before .before .before .before .args in
+    let listed = fresh (verbAt (args .s .now)) (itemEnd (args .s .now)) verbBucket (args .at) 64 320 (omega arith) in
+    c .before .before .items .ensures (args .at) listed refl
+
+pub all-spec : {M : Type 1} → statement M
+all-spec =
+    tie.close (tie.spec slice-aggregate-items slice-aggregate-items-2 items-requires returns)
