@@ -1,10 +1,10 @@
 pub mod MatchFacts
 pub mod KindFacts
 pub mod ExtendFacts
-pub mod Passes
 pub mod TestFacts
 pub mod RowFacts
-pub mod Masks
+pub mod Following
+pub mod StepFacts
 pub mod CondFacts
 pub mod SemiNaive
 pub mod RoundLaw
