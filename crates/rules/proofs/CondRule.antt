@@ -1,7 +1,7 @@
 -- The rule cond over a laid-out assertion: what a fact of the table gives in the place of a body fact is what uses of the rule with it give.
 -- The frame is over the model's bindings and constraints and its plan is right, so the search's instances are the rule's.
 use mathlib.Core.Path.{_≡_, refl, sym, ap, subst, _∙_}
-use mathlib.Core.Logic.{inl, _≢_}
+use mathlib.Core.Logic.{inl, inr, _≢_}
 use mathlib.Core.Bool.{Bool, true, false, cond}
 use mathlib.Core.Option.{Option, some}
 use mathlib.Core.List.{List, [], _∷_, map, List·Memᴰ, List·Memᴰ·tail, List·Memᴰ·not-nil, Memᴰ·of-map}
@@ -23,10 +23,10 @@ use Rattle.model.proofs.RecordFacts.{arity-map}
 use Rattle.fact.specs.Places.{stampOf, factOf}
 use Rattle.rules.specs.Rows.{noFact}
 use Rattle.rules.specs.Matching.{fits, follow}
-use Rattle.rules.specs.Plan.{bodyFact}
+use Rattle.rules.specs.Plan.{bodyFact, Plan}
 use Rattle.rules.specs.Patterns.{Frame}
-use Rattle.rules.specs.Cond.{may, headEntry, bodyRow, sourceOf, searchBy, planOf, condAt, condFirst, unbound8}
-use Rattle.rules.specs.Valid.{given, Valid}
+use Rattle.rules.specs.Cond.{may, headEntry, bodyRow, sourceOf, searchBy, condAt, condFirst, unbound8}
+use Rattle.rules.specs.Valid.{given}
 use Rattle.rules.proofs.MatchFacts.{Under, Ground, row-on, row-bound, Fitted, fits-of, fits-some}
 use Rattle.rules.proofs.ExtendFacts.{L, In, unbound-at, stands, fair-start, fair-on}
 use Rattle.rules.proofs.Following.{follow-of, follow-in}
@@ -77,8 +77,8 @@ module _ {𝒜 : List Assertion} {F : Frame} {a : Assertion} (S : Framed 𝒜 F 
       let i = at-some noFact (f .0) (a .body) (f .1) in
       subst (Within (Rule W 𝒜) n) (ap (λ (f : Fact Expr). said (a .issuer) d (mapFact (bound θ) f)) (sym (i .2)) ∙ f .2) (h (i .0) (i .1))
 
-  pub valid : Valid (F .pattern) (F .skip) (planOf F)
-  valid = S .laid .plans (F .skip) (S .skip)
+  abbrev plan : ℕ → Plan
+  plan skip = F .pattern .plan skip
 
   module _ {n : ℕ} {t : L} (H : Held (Rule W 𝒜) key n t) where
     ground : (q : List ℕ) → In q t → Ground (factOf q)
@@ -131,13 +131,13 @@ module _ {𝒜 : List Assertion} {F : Frame} {a : Assertion} (S : Framed 𝒜 F 
     unfolding condAt sourceOf
     cond-gives q c mq m = go (ltb (F .skip) bodies) refl m
       where
-        go : (b : Bool) → ltb (F .skip) bodies ≡ b → In c (cond b (follow (first-match (factOf q)) (searchBy F t (planOf F))) []) → Gives n c
+        go : (b : Bool) → ltb (F .skip) bodies ≡ b → In c (cond b (follow (first-match (factOf q)) (searchBy F t (plan (F .skip)))) []) → Gives n c
         go false e m = absurd (List·Memᴰ·not-nil m)
         go true e m =
             let h : F .skip < bodies = ltb-true (F .skip) bodies e in
-            let τ = follow-of (first-match (factOf q)) (searchBy F t (planOf F)) c m in
+            let τ = follow-of (first-match (factOf q)) (searchBy F t (plan (F .skip))) c m in
             let f = given-fits mq h (τ .1) in
-            let w = plan-of Sr valid (given-marks mq h f) (fair-on (Sr .over) f (fair-start (Sr .over))) (τ .2) in
+            let w = plan-of Sr (S .laid .plans (F .skip) (inr h)) (given-marks mq h f) (fair-on (Sr .over) f (fair-start (Sr .over))) (τ .2) in
             let ρ : List ℕ = w .0 in
             let row = row-on given-row (factOf q) (ground q mq) (w .1 .under) (f .is) in
             let skipped : Met Sr (bodyFact (F .skip)) ρ =
@@ -163,10 +163,11 @@ module _ {𝒜 : List Assertion} {F : Frame} {a : Assertion} (S : Framed 𝒜 F 
         let τ = fits-some (may F) given-row (factOf q) unbound8 θ (Sr .rows (F .skip) b) start is (λ v l. stands (Sr .over) θ (A .binds) v l) in
         let f = given-fits (w .1) b (τ .1) in
         let fair = fair-on (Sr .over) f (fair-start (Sr .over)) in
+        let valid = S .laid .plans (F .skip) (inr b) in
         let found = plan-in Sr valid (given-marks (w .1) b f) fair (A .binds) (f .least θ start is) (old-met A older) (tests-of S θ (A .passes)) in
-        let there = follow-in (first-match (factOf q)) (searchBy F t (planOf F)) (headEntry F θ) (τ .0) (τ .1) found in
+        let there = follow-in (first-match (factOf q)) (searchBy F t (plan (F .skip))) (headEntry F θ) (τ .0) (τ .1) found in
         rw (lt-ltb (F .skip) bodies b)
-        (subst (λ (c : List ℕ). In c (follow (first-match (factOf q)) (searchBy F t (planOf F)))) (head-is S θ (A .binds)) there)
+        (subst (λ (c : List ℕ). In c (follow (first-match (factOf q)) (searchBy F t (plan (F .skip))))) (head-is S θ (A .binds)) there)
 
   -- ---- an assertion without a body
 
@@ -174,18 +175,18 @@ module _ {𝒜 : List Assertion} {F : Frame} {a : Assertion} (S : Framed 𝒜 F 
   S0 = search S [] (λ q h. absurd (List·Memᴰ·not-nil h))
 
   -- nothing is bound before
-  none-marks : bodies ≡ 0 → Marks (given (F .pattern) (F .skip)) unbound8
-  none-marks z = rw (le-ltb (F .skip) bodies (omega arith)) (record { of = λ v e. e })
+  none-marks : bodies ≡ 0 → Marks (given (F .pattern) 0) unbound8
+  none-marks z = rw (le-ltb 0 bodies (omega arith)) (record { of = λ v e. e })
 
   pub first-gives : (n : ℕ) (c : List ℕ) → In c (condFirst F) → Gives n c
   unfolding condFirst
   first-gives n c m = go (eqb bodies 0) refl m
     where
-      go : (b : Bool) → eqb bodies 0 ≡ b → In c (cond b (searchBy F [] (planOf F) unbound8) []) → Gives n c
+      go : (b : Bool) → eqb bodies 0 ≡ b → In c (cond b (searchBy F [] (plan 0) unbound8) []) → Gives n c
       go false e m = absurd (List·Memᴰ·not-nil m)
       go true e m =
           let z : bodies ≡ 0 = eqb-true bodies 0 e in
-          let w = plan-of S0 valid (none-marks z) (fair-start (S0 .over)) m in
+          let w = plan-of S0 (S .laid .plans 0 (inl refl)) (none-marks z) (fair-start (S0 .over)) m in
           let body = body-by n (w .0) (λ j h. absurd (omega (arith, S .laid .bodies))) in
           head-gives {n = n} (record { binds = w .1 .binds; passes = tests-in S (w .0) (w .1 .pass); body = body }) (w .1 .is)
 
@@ -194,6 +195,6 @@ module _ {𝒜 : List Assertion} {F : Frame} {a : Assertion} (S : Framed 𝒜 F 
   first-given n {θ} z A =
       let e : bodies ≡ 0 = S .laid .bodies ∙ z in
       let start : Under unbound8 θ = record { of = λ v. inl (unbound-at v) } in
-      let found =
-      plan-in S0 valid (none-marks e) (fair-start (S0 .over)) (A .binds) start (λ i h. absurd (omega arith)) (tests-of S θ (A .passes)) in
-      rw (eq-eqb bodies 0 e) (subst (λ (c : List ℕ). In c (searchBy F [] (planOf F) unbound8)) (head-is S θ (A .binds)) found)
+      let valid = S .laid .plans 0 (inl refl) in
+      let found = plan-in S0 valid (none-marks e) (fair-start (S0 .over)) (A .binds) start (λ i h. absurd (omega arith)) (tests-of S θ (A .passes)) in
+      rw (eq-eqb bodies 0 e) (subst (λ (c : List ℕ). In c (searchBy F [] (plan 0) unbound8)) (head-is S θ (A .binds)) found)

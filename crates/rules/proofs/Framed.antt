@@ -9,7 +9,6 @@ use native.Mathlib.Nat.{mod-eq-of-lt, not-suc-le-zero}
 use native.Mathlib.Omega.{arith}
 use lib.ListN.{length, getD}
 use lib.Dec.{T}
-use Rattle.model.specs.Limits.{maxBody}
 use Rattle.model.specs.Lists.{all}
 use Rattle.model.specs.Syntax.{Expr, con, Fact, mapFact, Constraint, Constant, Assertion, World, Said, said}
 use Rattle.model.specs.Kinds.{variables}
@@ -59,7 +58,6 @@ pub record Framed (𝒜 : List Assertion) (F : Frame) (a : Assertion) : Type 0 w
   pub laid : Laid (F .world) a (F .pattern)
   pub counts : List·Memᴰ a 𝒜
   pub depth : List·Memᴰ (F .depth) depths
-  pub skip : F .skip ≤ maxBody
 
 module _ {𝒜 : List Assertion} {F : Frame} {a : Assertion} (S : Framed 𝒜 F a) where
   abbrev pub W : World

@@ -5,6 +5,10 @@ pub mod TestFacts
 pub mod RowFacts
 pub mod Following
 pub mod StepFacts
+pub mod MarkFacts
+pub mod LeftFacts
+pub mod ModeFacts
+pub mod PlanFacts
 pub mod CondFacts
 pub mod SemiNaive
 pub mod RoundLaw
