@@ -2,8 +2,8 @@
 use mathlib.Core.Path.{_≡_, refl, sym, ap, subst, _∙_}
 use mathlib.Core.Logic.{inr, ⊎-elim, _≢_}
 use mathlib.Core.Bool.{Bool, true, false, cond, true≢false}
-use mathlib.Core.Option.{none, some}
-use mathlib.Core.List.{List, [], _∷_, map, List·Memᴰ, List·Memᴰ·head, List·Memᴰ·tail, List·Memᴰ·cases-cons}
+use mathlib.Core.Option.{some}
+use mathlib.Core.List.{List, [], _∷_, map, List·Memᴰ, List·Memᴰ·head, List·Memᴰ·tail, List·Memᴰ·not-nil, List·Memᴰ·cases-cons}
 use mathlib.Core.List.{Memᴰ·of-map}
 use Prim.Native.Nat.{ℕ, _+_, _≤_, _<_}
 use native.Mathlib.Decide.{ℕ-discrete}
@@ -13,22 +13,23 @@ use lib.Seq.{getD-set-other}
 use lib.Dec.{T, eqb, ltb}
 use borrow.Author.Tests.{ne-eqb, ltb-true}
 use Rattle.model.specs.Limits.{unbound}
+use Rattle.model.specs.Lists.{only}
 use Rattle.model.specs.Syntax.{Expr, con, var, today, Constant}
 use Rattle.model.specs.Values as P
 use Rattle.model.specs.Values.{bound}
-use Rattle.model.proofs.ListFacts.{all-of, all-in}
+use Rattle.model.proofs.ListFacts.{all-of, all-in, only-of, only-in}
 use Rattle.fact.specs.Places.{stampOf, factOf}
-use Rattle.rules.specs.Matching.{at, fits}
+use Rattle.rules.specs.Matching.{at, fits, follow}
 use Rattle.rules.specs.Plan.{Part, bodyFact, variable, Mode, every, enough, once, look, finds, Step}
 use Rattle.rules.specs.Patterns.{Pattern, Frame}
-use Rattle.rules.specs.Cond.{upto, single, tooNew, may, bodyRow, hold, rowOf, placesOf, isLate, matched, carried, sourceOf}
+use Rattle.rules.specs.Cond.{upto, single, tooNew, may, bodyRow, hold, rowOf, placesOf, isLate, carried, sourceOf}
 use Rattle.rules.specs.Valid.{marked, exprsOf, There, Testable, after}
 use Rattle.rules.specs.Proper.{HasAll}
 use Rattle.rules.proofs.MatchFacts.{Under, Ground, row-on, row-bound, Fitted, fits-of}
 use Rattle.rules.proofs.KindFacts.{upto-of}
 use Rattle.rules.proofs.ExtendFacts.{L, In, T-true, Over, Binds, Fair, fair-on}
 use Rattle.rules.proofs.TestFacts.{passes-same, told-bound}
-use Rattle.rules.proofs.Following.{none≢some, passing-of, onward}
+use Rattle.rules.proofs.Following.{follow-of, onward}
 
 -- an entry is too new only for a fact before the one that has its entry, and only if it is of that entry's round
 pub not-new : (skip last i : ℕ) (q : List ℕ) → (i < skip → stampOf q ≢ last) → tooNew skip last i q ≡ false
@@ -124,17 +125,30 @@ module _ {F : Frame} {cs : List Constant} {ks : List ℕ} {t : L} (S : Search F 
     pub fitted : Fitted (may F) (rowOf F (s .part)) (placesOf F (s .part) y) θ τ
     pub tests : hold F (s .tests) τ ≡ true
 
-  pub carries : {s : Step} {θ τ y : List ℕ} → There p (s .part) → Fair (S .over) θ → In y (sourceOf F t (s .part)) → carried F s θ y ≡ some τ → Carries s θ τ y
-  unfolding carried matched
-  carries {s} {θ} {τ} {y} h a m e =
-      let o = passing-of (hold F (s .tests)) _ e in
-      let n = go (isLate F (s .part) y) refl (o .0) in
-      record { among = m; late = n .0; fitted = fits-of (may F) _ _ (has (s .part) θ h (a .eight)) (places (s .part) y m) (n .1); tests = o .1 }
+  pub carries : {s : Step} {θ τ y : List ℕ} → There p (s .part) → Fair (S .over) θ → In y (sourceOf F t (s .part)) → In τ (carried F s θ y) → Carries s θ τ y
+  unfolding carried
+  carries {s} {θ} {τ} {y} h a m e = go (isLate F (s .part) y) refl e
     where
-      go : (b : Bool) → isLate F (s .part) y ≡ b → cond b none (fits (may F) θ (rowOf F (s .part)) (placesOf F (s .part) y)) ≡ some τ
-          → (isLate F (s .part) y ≡ false) × (fits (may F) θ (rowOf F (s .part)) (placesOf F (s .part) y) ≡ some τ)
-      go true q e = absurd (none≢some e)
-      go false q e = (q, e)
+      go : (b : Bool) → isLate F (s .part) y ≡ b
+          → In τ (cond b [] (follow (fits (may F) θ (rowOf F (s .part)) (placesOf F (s .part) y)) (λ (τ : List ℕ). only (hold F (s .tests) τ) τ)))
+          → Carries s θ τ y
+      go true q e = absurd (List·Memᴰ·not-nil e)
+      go false q e =
+          let o = follow-of (fits (may F) θ (rowOf F (s .part)) (placesOf F (s .part) y)) (λ (τ : List ℕ). only (hold F (s .tests) τ) τ) τ e in
+          let r = only-of (hold F (s .tests) (o .0)) (o .2) in
+          let same : τ ≡ o .0 = r .1 in
+          let fit = fits-of (may F) _ _ (has (s .part) θ h (a .eight)) (places (s .part) y m) (o .1) in
+          record {
+            among = m;
+            late = q;
+            fitted = subst (Fitted (may F) (rowOf F (s .part)) (placesOf F (s .part) y) θ) (sym same) fit;
+            tests = ap (hold F (s .tests)) same ∙ T-true _ (r .0);
+          }
+
+  pub carried-by : (s : Step) (θ y : List ℕ) {τ : List ℕ} → isLate F (s .part) y ≡ false → fits (may F) θ (rowOf F (s .part)) (placesOf F (s .part) y) ≡ some τ
+      → hold F (s .tests) τ ≡ true → In τ (carried F s θ y)
+  unfolding carried
+  carried-by s θ y {τ} l e h = rw (l, e) (only-in (hold F (s .tests) τ) (subst T (sym h) tt) refl)
 
   -- what a part matches is bound then
   pub part-marks : (part : Part) {β θ τ y : List ℕ} → In y (sourceOf F t part) → Fitted (may F) (rowOf F part) (placesOf F part y) θ τ → Marks β θ
