@@ -137,7 +137,7 @@ module _ {𝒜 : List Assertion} {F : Frame} {a : Assertion} (S : Framed 𝒜 F 
             let h : F .skip < bodies = ltb-true (F .skip) bodies e in
             let τ = follow-of (first-match (factOf q)) (searchBy F t (plan (F .skip))) c m in
             let f = given-fits mq h (τ .1) in
-            let w = plan-of Sr (S .laid .plans (F .skip) (inr h)) (given-marks mq h f) (fair-on (Sr .over) f (fair-start (Sr .over))) (τ .2) in
+            let w = plan-of Sr (S .plans (F .skip) (inr h)) (given-marks mq h f) (fair-on (Sr .over) f (fair-start (Sr .over))) (τ .2) in
             let ρ : List ℕ = w .0 in
             let row = row-on given-row (factOf q) (ground q mq) (w .1 .under) (f .is) in
             let skipped : Met Sr (bodyFact (F .skip)) ρ =
@@ -163,7 +163,7 @@ module _ {𝒜 : List Assertion} {F : Frame} {a : Assertion} (S : Framed 𝒜 F 
         let τ = fits-some (may F) given-row (factOf q) unbound8 θ (Sr .rows (F .skip) b) start is (λ v l. stands (Sr .over) θ (A .binds) v l) in
         let f = given-fits (w .1) b (τ .1) in
         let fair = fair-on (Sr .over) f (fair-start (Sr .over)) in
-        let valid = S .laid .plans (F .skip) (inr b) in
+        let valid = S .plans (F .skip) (inr b) in
         let found = plan-in Sr valid (given-marks (w .1) b f) fair (A .binds) (f .least θ start is) (old-met A older) (tests-of S θ (A .passes)) in
         let there = follow-in (first-match (factOf q)) (searchBy F t (plan (F .skip))) (headEntry F θ) (τ .0) (τ .1) found in
         rw (lt-ltb (F .skip) bodies b)
@@ -186,7 +186,7 @@ module _ {𝒜 : List Assertion} {F : Frame} {a : Assertion} (S : Framed 𝒜 F 
       go false e m = absurd (List·Memᴰ·not-nil m)
       go true e m =
           let z : bodies ≡ 0 = eqb-true bodies 0 e in
-          let w = plan-of S0 (S .laid .plans 0 (inl refl)) (none-marks z) (fair-start (S0 .over)) m in
+          let w = plan-of S0 (S .plans 0 (inl refl)) (none-marks z) (fair-start (S0 .over)) m in
           let body = body-by n (w .0) (λ j h. absurd (omega (arith, S .laid .bodies))) in
           head-gives {n = n} (record { binds = w .1 .binds; passes = tests-in S (w .0) (w .1 .pass); body = body }) (w .1 .is)
 
@@ -195,6 +195,6 @@ module _ {𝒜 : List Assertion} {F : Frame} {a : Assertion} (S : Framed 𝒜 F 
   first-given n {θ} z A =
       let e : bodies ≡ 0 = S .laid .bodies ∙ z in
       let start : Under unbound8 θ = record { of = λ v. inl (unbound-at v) } in
-      let valid = S .laid .plans 0 (inl refl) in
+      let valid = S .plans 0 (inl refl) in
       let found = plan-in S0 valid (none-marks e) (fair-start (S0 .over)) (A .binds) start (λ i h. absurd (omega arith)) (tests-of S θ (A .passes)) in
       rw (eq-eqb bodies 0 e) (subst (λ (c : List ℕ). In c (searchBy F [] (plan 0) unbound8)) (head-is S θ (A .binds)) found)

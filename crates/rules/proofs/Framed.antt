@@ -1,16 +1,16 @@
 -- A frame of a laid-out assertion is over the model: its kinds and constraints are the assertion's, its head and body rows are the places of the instances,
 -- and its plan is right.
 use mathlib.Core.Path.{_≡_, refl, sym, ap, ap₂, subst, _∙_}
-use mathlib.Core.Logic.{⊎-elim}
+use mathlib.Core.Logic.{_⊎_, ⊎-elim}
 use mathlib.Core.Bool.{Bool, true}
 use mathlib.Core.List.{List, [], _∷_, map, List·Memᴰ, List·Memᴰ·head, List·Memᴰ·tail, List·Memᴰ·not-nil, List·Memᴰ·cases-cons, Memᴰ·map}
 use Prim.Native.Nat.{ℕ, zero, suc, _≤_, _<_}
 use native.Mathlib.Nat.{mod-eq-of-lt, not-suc-le-zero}
 use native.Mathlib.Omega.{arith}
-use lib.ListN.{length, getD}
+use lib.ListN.{length, getD, length-map}
 use lib.Dec.{T}
 use Rattle.model.specs.Lists.{all}
-use Rattle.model.specs.Syntax.{Expr, con, Fact, mapFact, Constraint, Constant, Assertion, World, Said, said}
+use Rattle.model.specs.Syntax.{Expr, con, Fact, mapFact, Constraint, Constant, Assertion, World, Said, said, varsTest}
 use Rattle.model.specs.Kinds.{variables}
 use Rattle.model.specs.Values.{bound, kindsOf, bindingsOf, passes}
 use Rattle.model.specs.Rules as R
@@ -21,15 +21,17 @@ use Rattle.model.proofs.BindingFacts.{at-variable}
 use Rattle.model.proofs.RecordFacts.{arity-map}
 use Rattle.fact.specs.Places.{factOf}
 use Rattle.rules.specs.Rows.{rowOf, noFact}
-use Rattle.rules.specs.Patterns.{Frame}
+use Rattle.rules.specs.Patterns.{Pattern, Frame}
 use Rattle.rules.specs.Cond.{field, headEntry, bodyRow}
 use Rattle.rules.specs.Proper.{Proper, HasAll, Below, Heads}
 use Rattle.rules.specs.Laid.{noTest, Laid}
+use Rattle.rules.specs.Valid.{Valid}
 use Rattle.rules.proofs.MatchFacts.{Ground}
 use Rattle.rules.proofs.ExtendFacts.{L, In, T-true, Over}
 use Rattle.rules.proofs.RowFacts.{row-key}
 use Rattle.rules.proofs.StepFacts.{Search}
-use Rattle.rules.proofs.Good.{Good, depth-small, key-below}
+use Rattle.rules.proofs.LeftFacts.{Sound}
+use Rattle.rules.proofs.Good.{Good, depth-small, key-below, key-length}
 
 -- ---- elements by their numbers
 
@@ -49,6 +51,26 @@ fields : (θ : List ℕ) (es : List Expr) → Below (map (bound θ) es) → map 
 fields θ [] b = refl
 fields θ (e ∷ es) b = ap₂ _∷_ (mod-eq-of-lt (let h : bound θ e < 255 = b .0 in omega arith)) (fields θ es (b .1))
 
+-- a laid-out assertion is one that has a plan which is right
+pub sound : {W : World} {a : Assertion} {p : Pattern} → Proper W a → Laid W a p → Sound p
+sound {W} {a} {p} P L = record {
+  few = omega (arith, L .bodies, L .few);
+  head = omega (
+    arith,
+    ap length (L .head),
+    length-map (rowOf (a .head)) (bound []),
+    ap length (row-key [] 0 0 (a .head)),
+    key-length (said 0 0 (mapFact (bound []) (a .head))) (P .heads .shape []),
+  );
+  rows = λ i h.
+      let l : i < length (a .body) = omega (arith, L .bodies) in
+      subst (HasAll 8) (sym (L .body i l)) (P .rows (getD (a .body) i noFact) (some-at noFact (a .body) i l));
+  tests = λ i h v m.
+      let l : i < length (a .tests) = omega (arith, L .tests) in
+      let o = P .occurs (getD (a .tests) i noTest) (some-at noTest (a .tests) i l) v (subst (λ (c : Constraint). List·Memᴰ v (varsTest c)) (L .test i l) m) in
+      (o .0, λ z. o .1 (sym (L .kinds v (o .0)) ∙ z));
+}
+
 -- The frame F is of the assertion a, one of those that count, at one of the depths; what is asked of assertions holds.
 pub record Framed (𝒜 : List Assertion) (F : Frame) (a : Assertion) : Type 0 where
   pub few : length (F .world .constants) ≤ 255
@@ -58,6 +80,7 @@ pub record Framed (𝒜 : List Assertion) (F : Frame) (a : Assertion) : Type 0 w
   pub laid : Laid (F .world) a (F .pattern)
   pub counts : List·Memᴰ a 𝒜
   pub depth : List·Memᴰ (F .depth) depths
+  pub plans : (skip : ℕ) → (skip ≡ 0) ⊎ (skip < F .pattern .bodies) → Valid (F .pattern) skip (F .pattern .plan skip)
 
 module _ {𝒜 : List Assertion} {F : Frame} {a : Assertion} (S : Framed 𝒜 F a) where
   abbrev pub W : World
