@@ -1,4 +1,4 @@
-/* Hostile policies: 255 constants and 256 assertions each, accepted, made to cost as much as they can; h is a hostile request. Each goes into a
+/* Hostile policies: 256 assertions and 255 constants each (i and j: 180), accepted, made to cost as much as they can; h is a hostile request. Each goes into a
    folder of its own. */
 #include "bench.h"
 #include "writer.h"
@@ -12,12 +12,25 @@ enum { MARKED = 1, LINKED, GIVEN, ABSENT, PAIRED };
 
 static writer policy, request;
 
-/* 255 principals and the verbs; then the list of assertions begins. */
-static void start(void) {
+/* The bucket of the label "pN" where the engine looks for alike ones (crates/labels). */
+static unsigned bucket(unsigned n) {
+    char label[33];
+    unsigned h = 0;
+    snprintf(label, sizeof label, "p%u", n);
+    for (const char *c = label; *c; c++) h = (33 * h + (unsigned char)*c) % 65536;
+    return h % 251;
+}
+
+/* So many principals, all in one bucket if so asked, and the verbs; then the list of assertions begins. */
+static void start_with(unsigned principal_count, bool one_bucket) {
     static const uint8_t principals[3] = {PRINCIPAL, PRINCIPAL, PRINCIPAL};
     begun(&policy);
     list(&policy);
-    for (unsigned i = 0; i < CONSTANTS; i++) labelled(&policy, PRINCIPAL, "p", i);
+    for (unsigned i = 0, n = 0; n < principal_count; i++) {
+        if (one_bucket && bucket(i) != 0) continue;
+        labelled(&policy, PRINCIPAL, "p", i);
+        n++;
+    }
     list(&policy);
     verb(&policy, "marked", 0, principals);
     verb(&policy, "linked", 3, principals);
@@ -25,6 +38,10 @@ static void start(void) {
     verb(&policy, "absent", 0, principals);
     verb(&policy, "paired", 1, principals);
     list(&policy);
+}
+
+static void start(void) {
+    start_with(CONSTANTS, false);
 }
 
 /* The node "0 says SUBJECT is marked". */
@@ -206,6 +223,57 @@ static void late_answer(const char *out) {
     finish_with(out, "h_late_answer", true);
 }
 
+/* The head "1 can say v1 linked v2 1 1", at unlimited depth. */
+static void quoted_head(void) {
+    put_one(&policy, 1);
+    put_two(&policy, 1);
+    put_one(&policy, 1);
+    put_two(&policy, V1);
+    put_one(&policy, LINKED);
+    put_two(&policy, V2);
+    put_two(&policy, 1);
+    put_two(&policy, 1);
+}
+
+/* Of 180 principals this head has 32,400 instances, at both depths nearly as many as there is room for. */
+enum { FEWER = 180 };
+
+/* i: every rule lets 1 say of any two principals that they are linked: each fact is given 256 times. */
+static void same_heads(const char *out) {
+    start_with(FEWER, false);
+    for (unsigned i = 0; i < ASSERTIONS; i++) {
+        said(&policy, 0);
+        quoted_head();
+        put_one(&policy, 0);
+        put_one(&policy, 0);
+        closed(&policy);
+    }
+    finish(out, "i_same_heads");
+}
+
+/* j: the same head if v0 given v3: each of 64 facts gives all heads by each of 192 rules. */
+static void many_causes(const char *out) {
+    enum { FACTS = 64 };
+    start_with(FEWER, false);
+    for (unsigned i = 0; i < FACTS; i++) stated(i, GIVEN, 1, i);
+    for (unsigned i = FACTS; i < ASSERTIONS; i++) {
+        said(&policy, 0);
+        quoted_head();
+        put_one(&policy, 1);
+        fact(&policy, V0, GIVEN, 1, V3, 0, 0);
+        put_one(&policy, 0);
+        closed(&policy);
+    }
+    finish(out, "j_many_causes");
+}
+
+/* k: 255 labels that fall into one bucket. */
+static void one_bucket(const char *out) {
+    start_with(CONSTANTS, true);
+    for (unsigned i = 0; i < ASSERTIONS; i++) stated(i % CONSTANTS, MARKED, 0, 0);
+    finish(out, "k_one_bucket");
+}
+
 int main(int argc, char **argv) {
     if (argc != 2) {
         fprintf(stderr, "usage: hostile FOLDER\n");
@@ -220,5 +288,8 @@ int main(int argc, char **argv) {
     no_match(argv[1]);
     late_test(argv[1]);
     late_answer(argv[1]);
+    same_heads(argv[1]);
+    many_causes(argv[1]);
+    one_bucket(argv[1]);
     return 0;
 }

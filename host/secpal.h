@@ -103,8 +103,8 @@ typedef struct {
  *                   ascending order, a constant's number for each of the eight variables, 255 where one is not free, and 0 after them
  *
  * No pointer may be NULL, also where its length is 0; `facts` and `answers` must not overlap each other or an input. Nothing is kept
- * after the call, and calls at the same time on different buffers do not disturb each other. It takes a fixed amount of stack,
- * below 1,100,000 bytes on all that was tried (tests/stack measures it on each check), and no other memory.
+ * after the call, and calls at the same time on different buffers do not disturb each other. It takes stack and no other memory: below 200,000 bytes
+ * with a fact buffer of at most 65,536 bytes, below 1,000,000 with a larger one, on all that was tried (tests/stack measures both on each check).
  */
 secpal_report secpal_decide(const uint8_t *policy, size_t policy_len, const uint8_t *request, size_t request_len,
                             uint8_t *facts, size_t facts_len, uint8_t *answers, size_t answers_len);

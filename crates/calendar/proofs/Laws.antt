@@ -11,7 +11,8 @@ use borrow.Author.Tests.{eq-eqb, ne-eqb, eqb-true, eqb-false, lt-ltb, le-ltb}
 use Rattle.model.specs.Calendar.{leapYear, yearDays, monthDays, Date, date, dateOf, daysOfYears, daysOfMonths, dayOf, oneYearAfter, yearAfter}
 use Rattle.model.specs.Years.{IsDate}
 use Rattle.model.proofs.CalendarFacts.{months, twelve, forth}
-use Rattle.model.proofs.Years.{both, more, base, late, before, year-days, dates-are-days, same-date}
+use Rattle.model.proofs.DaysOfYear.{both, more, base, late, before, year-days}
+use Rattle.model.proofs.Years.{dates-are-days, same-date}
 
 -- ---- leap years, test by test
 
@@ -148,7 +149,8 @@ days-most y = months (λ (m : ℕ). monthDays y m ≤ 31) (
 )
 
 -- what the code finds is the date of the day
-pub found : (n y m o : ℕ) → 2000 ≤ y → n ≡ daysOfYears (y - 2000) + o → 1 ≤ m → m ≤ 12 → daysOfMonths y (m - 1) ≤ o → o < daysOfMonths y m → date y m (o - daysOfMonths y (m - 1) + 1) ≡ dateOf n
+pub found : (n y m o : ℕ) → 2000 ≤ y → n ≡ daysOfYears (y - 2000) + o → 1 ≤ m → m ≤ 12 → daysOfMonths y (m - 1) ≤ o → o < daysOfMonths y m
+    → date y m (o - daysOfMonths y (m - 1) + 1) ≡ dateOf n
 found n y m o h e a z l k =
     let d : Date = date y m (o - daysOfMonths y (m - 1) + 1) in
     let on = month-on y m a in

@@ -35,9 +35,11 @@ module _ (policy request facts answers : List ℕ) (P : Policy) (q : Request) (h
   eight-leaves (fullAnswers a f m) e v = absurd (let z = number-of 9 0 0 8 0 0 (sym (ap (λ (ρ : Report). ρ .verdict) e) ∙ v) in omega arith)
   eight-leaves (allListed {A = A} a f b g) e v = absurd (no-refusal (word A) 8 0 0 (word-decides A) (sym (ap (λ (ρ : Report). ρ .verdict) e) ∙ v))
 
-  nine-leaves : {o : Outcome} → IsMeant o → by o .verdict ≡ refusal 9 0 0 → TableOf P q facts (by o) × (by o .answers ≡ 0) × (by o .answerBuffer ≡ cleared answers)
+  nine-leaves : {o : Outcome} → IsMeant o → by o .verdict ≡ refusal 9 0 0
+      → TableOf P q facts (by o) × (by o .answers ≡ 0) × (by o .answerBuffer ≡ cleared answers)
   nine-leaves (fullTable m) v = absurd (let z = number-of 8 0 0 9 0 0 v in omega arith)
-  nine-leaves (fullAnswers {F} a f m) v = (table-of P q policy request h facts F f (table-fits P q (capacity facts) F a f) (refusal 9 0 0) 0 (cleared answers), refl, refl)
+  nine-leaves (fullAnswers {F} a f m) v =
+      (table-of P q policy request h facts F f (table-fits P q (capacity facts) F a f) (refusal 9 0 0) 0 (cleared answers), refl, refl)
   nine-leaves (allListed {A = A} a f b g) v = absurd (no-refusal (word A) 9 0 0 (word-decides A) v)
 
   both-fit : {o : Outcome} → IsMeant o → IsDecision (by o .verdict) → AtMost (capacity facts) (DerivableIn P q) × AtMost (room answers) (AnswerIn P q)
@@ -50,12 +52,14 @@ module _ (policy request facts answers : List ℕ) (P : Policy) (q : Request) (h
   table (fullAnswers a f m) d = absurd d
   table (allListed {F} {A} a f b g) d = table-of P q policy request h facts F f (table-fits P q (capacity facts) F a f) (word A) _ _
 
+  -- what allow and deny say of answers
+  abbrev Told : Report → Type 0
+  Told ρ = ((ρ .verdict ≡ allow) ↔ ((θ : List ℕ) × AnswerIn P q θ)) × ((ρ .verdict ≡ deny) ↔ (¬ ((θ : List ℕ) × AnswerIn P q θ)))
+
   listed : {o : Outcome} → IsMeant o → made ≡ by o → IsDecision (by o .verdict) → AnswersOf P q answers (by o)
   listed (fullTable m) e d = absurd d
   listed (fullAnswers a f m) e d = absurd d
-  listed (allListed {F} {A} a f b g) e d =
-      answers-of P q answers A g b (word A) _ _ _
-      (subst (λ (ρ : Report). ((ρ .verdict ≡ allow) ↔ ((θ : List ℕ) × AnswerIn P q θ)) × ((ρ .verdict ≡ deny) ↔ (¬ ((θ : List ℕ) × AnswerIn P q θ)))) e (M.allows policy request facts answers P q h a b))
+  listed (allListed {F} {A} a f b g) e d = answers-of P q answers A g b (word A) _ _ _ (subst Told e (M.allows policy request facts answers P q h a b))
 
 -- ---- demand 1
 

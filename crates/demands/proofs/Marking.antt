@@ -18,6 +18,7 @@ use Rattle.model.proofs.ListFacts.{member-of, member-in}
 use Rattle.model.proofs.Theorems.{computedReach}
 use Rattle.demands.specs.Lookups.{reachOf, marksFrom, Reached, reached, reachedOn, reachedBy, whoseWords}
 use Rattle.demands.specs.Demands.{MarksOf}
+use Rattle.model.proofs.Tests.{T-true}
 
 -- ---- marks
 
@@ -34,15 +35,11 @@ marks-at l (suc n) j (suc i) h = let e : suc j + i ≡ j + suc i = omega arith i
 
 -- a mark tells whether a number is in the list
 one-in : (i : ℕ) (l : List ℕ) (m : ℕ) → m ≡ cond (member i l) 1 0 → (m ≡ 1) ↔ List·Memᴰ i l
-one-in i l m e = (λ k. member-of i l (there (member i l) (sym e ∙ k)), λ k. e ∙ ap (λ (b : Bool). cond b 1 0) (is-true (member i l) (member-in k)))
+one-in i l m e = (λ k. member-of i l (there (member i l) (sym e ∙ k)), λ k. e ∙ ap (λ (b : Bool). cond b 1 0) (T-true (member i l) (member-in k)))
   where
     there : (b : Bool) → _≡_ {A = ℕ} (cond b 1 0) 1 → T b
     there true h = tt
     there false h = absurd (omega arith)
-
-    is-true : (b : Bool) → T b → b ≡ true
-    is-true true t = refl
-    is-true false t = absurd t
 
 one-or-none : (b : Bool) (m : ℕ) → m ≡ cond b 1 0 → ((m ≡ 1) → ⊥) → m ≡ 0
 one-or-none true m e h = absurd (h e)

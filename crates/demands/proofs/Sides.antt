@@ -93,10 +93,12 @@ module _ (request facts answers : List ℕ) where
   by-answered : (r : Reading Accepted) → RefusesBy ofPolicy r → Answered (decisionBy r request facts answers .verdict)
   unfolding decisionBy
   by-answered (got A x) w =
-      on-answered (policyOf A) facts answers (readRequest (policyOf A .constants) (policyOf A .verbs) request) (request-numbers (policyOf A .constants) (policyOf A .verbs) request)
+      let P = policyOf A in
+      on-answered P facts answers (readRequest (P .constants) (P .verbs) request) (request-numbers (P .constants) (P .verbs) request)
   by-answered (refused n p) w = member-of n ofPolicy w
 
-  by-read : (r : Reading Accepted) → IsDecision (decisionBy r request facts answers .verdict) → (A : Accepted) × (x : ℕ) × (r ≡ got A x) × ((q : Request) × AskedAs (policyOf A) request q)
+  by-read : (r : Reading Accepted) → IsDecision (decisionBy r request facts answers .verdict)
+      → (A : Accepted) × (x : ℕ) × (r ≡ got A x) × ((q : Request) × AskedAs (policyOf A) request q)
   unfolding decisionBy
   by-read (got A x) d =
       (A, x, refl, on-asked (policyOf A) facts answers (readRequest (policyOf A .constants) (policyOf A .verbs) request) d)
@@ -131,10 +133,12 @@ module _ (policy request facts answers : List ℕ) where
   unfolding decision
   on-policy P h = by-policy request facts answers (readPolicy policy) P h
 
-  pub request-kept : (P : Policy) → ReadAs policy P → (n p : ℕ) → readRequest (P .constants) (P .verbs) request ≡ refused n p → made ≡ untouched n 2 p facts answers
+  pub request-kept : (P : Policy) → ReadAs policy P → (n p : ℕ) → readRequest (P .constants) (P .verbs) request ≡ refused n p
+      → made ≡ untouched n 2 p facts answers
   request-kept P h n p e = on-policy P h ∙ on-kept P facts answers (readRequest (P .constants) (P .verbs) request) n p e
 
-  pub request-side : (P : Policy) → ReadAs policy P → (n p : ℕ) → (made .verdict ≡ refusal n 2 p) ↔ (readRequest (P .constants) (P .verbs) request ≡ refused n p)
+  pub request-side : (P : Policy) → ReadAs policy P → (n p : ℕ)
+      → (made .verdict ≡ refusal n 2 p) ↔ (readRequest (P .constants) (P .verbs) request ≡ refused n p)
   request-side P h n p = (
     λ e. on-side P facts answers (readRequest (P .constants) (P .verbs) request) n p (sym (ap (λ (ρ : Report). ρ .verdict) (on-policy P h)) ∙ e),
     λ e. ap (λ (ρ : Report). ρ .verdict) (request-kept P h n p e),

@@ -25,6 +25,7 @@ use Rattle.reach.specs.Marks.{Marks, IsReach, Reads, assertionsAt}
 use Rattle.reach.proofs.Counting.{accepted-reads}
 use Rattle.program.proofs.Accepted.{accepted-known, held-front}
 use Rattle.engine.specs.Accepts.{Accepts}
+use Rattle.model.proofs.ByteFacts.{bytes-length, bytes-at}
 
 -- ---- a slice written from its front
 
@@ -43,17 +44,6 @@ over-all [] [] e = refl
 over-all [] (b ∷ t) e = absurd (omega arith)
 over-all (a ∷ L) [] e = absurd (omega arith)
 over-all (a ∷ L) (b ∷ t) e = ap (λ (l : List ℕ). a ∷ l) (over-all L t (omega arith))
-
-bytes-length : (n : ℕ) (m : List ℕ) (p : ℕ) → length (bytesAt n m p) ≡ n
-unfolding bytesAt
-bytes-length zero m p = refl
-bytes-length (suc n) m p = ap suc (bytes-length n m (p + 1))
-
-bytes-at : (n : ℕ) (m : List ℕ) (p i : ℕ) → i < n → getD (bytesAt n m p) i 0 ≡ byteAt m (p + i)
-unfolding bytesAt
-bytes-at zero m p i h = absurd (omega arith)
-bytes-at (suc n) m p zero h = let e : p ≡ p + 0 = omega arith in ap (byteAt m) e
-bytes-at (suc n) m p (suc i) h = let e : p + 1 + i ≡ p + suc i = omega arith in bytes-at n m (p + 1) i (omega arith) ∙ ap (byteAt m) e
 
 pub written-next : (m t : List ℕ) (i b : ℕ) → i < length t → b ≡ byteAt m i → set (written m t i) i b ≡ written m t (i + 1)
 written-next m t i b h e =

@@ -7,26 +7,13 @@ use native.Mathlib.Omega.{arith}
 use lib.Dec.{eqb, ltb}
 use lib.ListN.{length, getD, set, length-set}
 use lib.Seq.{getD-set-same, getD-set-other}
-use borrow.Author.Tests.{eqb-true, eqb-false, ltb-true, ltb-false, eq-eqb, ne-eqb, lt-ltb, le-ltb}
+use borrow.Author.Tests.{eq-eqb, ne-eqb, lt-ltb, le-ltb}
 use Rattle.model.specs.Bytes.{choose}
 use Rattle.wire.proofs.Reading.{choose-true, choose-false}
 use Rattle.kinds.specs.declared.Fit.{Fit}
 use Rattle.kinds.specs.Cells.{Ask, same, number, good, bad, relabel, cellOf, settled, merged, counted, alike, numbered, asked, fitThen, feed}
 use Rattle.kinds.specs.Choices.{Choice, kindIn, Meets, MeetsAll}
-
-by-eq : {P : Type 0} (x a : ℕ) → (x ≡ a → P) → ((x ≡ a → ⊥) → P) → P
-by-eq {P} x a f g = go (eqb x a) refl
-  where
-    go : (q : Bool) → eqb x a ≡ q → P
-    go true e = f (eqb-true x a e)
-    go false e = g (eqb-false x a e)
-
-by-lt : {P : Type 0} (x a : ℕ) → (x < a → P) → (a ≤ x → P) → P
-by-lt {P} x a f g = go (ltb x a) refl
-  where
-    go : (q : Bool) → ltb x a ≡ q → P
-    go true e = f (ltb-true x a e)
-    go false e = g (ltb-false x a e)
+use Rattle.model.proofs.Tests.{by-eq, by-lt}
 
 -- ---- relabel, cell by cell
 
@@ -58,7 +45,9 @@ relabel-hit (suc n) t a b v l h e =
     by-eq v n
     (λ d. let e′ : getD t n 0 ≡ a = rw d at e in
     rw (d, choose-true (set t n b) t (eq-eqb (getD t n 0) a e′)) (relabel-past n (set t n b) a b n (omega arith) ∙ getD-set-same t n b 0 (omega arith)))
-    (λ d. relabel-hit n (choose (eqb (getD t n 0) a) (set t n b) t) a b v (rw (put-length (eqb (getD t n 0) a) t n b) (omega arith)) (omega arith) (put (eqb (getD t n 0) a) t n b v d ∙ e))
+    (λ d.
+    let q = eqb (getD t n 0) a in
+    relabel-hit n (choose q (set t n b) t) a b v (rw (put-length q t n b) (omega arith)) (omega arith) (put q t n b v d ∙ e))
 
 relabel-miss : (n : ℕ) (t : List ℕ) (a b v : ℕ) → (getD t v 0 ≡ a → ⊥) → getD (relabel n t a b) v 0 ≡ getD t v 0
 unfolding relabel
@@ -189,7 +178,8 @@ joined t G a b ne A f up B = record {
 }
 
 -- the same condition, said otherwise
-said : (t : List ℕ) (f : Fit) (C D : List ℕ → Type 0) → ((κ : List ℕ) → Choice κ → Solves κ t → C κ → D κ) → ((κ : List ℕ) → Choice κ → Solves κ t → D κ → C κ) → Exact t f C → Exact t f D
+said : (t : List ℕ) (f : Fit) (C D : List ℕ → Type 0) → ((κ : List ℕ) → Choice κ → Solves κ t → C κ → D κ)
+    → ((κ : List ℕ) → Choice κ → Solves κ t → D κ → C κ) → Exact t f C → Exact t f D
 said t f C D to of X = record {
   sound = X .sound;
   back = λ e κ K s. let r = X .back e κ K s in (r .0, to κ K (r .0) (r .1));
@@ -198,20 +188,23 @@ said t f C D to of X = record {
 }
 
 -- two kinds that differ, and a kind of principals or things beside days or quantities
-apart : (t : List ℕ) (a b : ℕ) → Proper t a → Proper t b → 8 ≤ a → 8 ≤ b → a < 12 → (a ≡ b → ⊥) → (12 ≤ b → a < 10) → (κ : List ℕ) → Solves κ t → cellKind κ a ≡ cellKind κ b → ⊥
+apart : (t : List ℕ) (a b : ℕ) → Proper t a → Proper t b → 8 ≤ a → 8 ≤ b → a < 12 → (a ≡ b → ⊥) → (12 ≤ b → a < 10) → (κ : List ℕ) → Solves κ t
+    → cellKind κ a ≡ cellKind κ b → ⊥
 apart t a b A B la lb ha ne w κ s q =
     let ka : cellKind κ a ≡ a - 7 = kind-fixed κ a la ha in
     by-lt b 12
     (λ (m : b < 12). let kb : cellKind κ b ≡ b - 7 = kind-fixed κ b lb m in ne (omega arith))
     (λ (m : 12 ≤ b). let kb : 3 ≤ cellKind κ b = low κ t b B s m in let x : a < 10 = w m in omega arith)
 
-settled-exact : (t : List ℕ) → Good t → (a b : ℕ) → Proper t a → Proper t b → 8 ≤ a → 8 ≤ b → (a ≡ b → ⊥) → Exact t (settled t a b) (λ κ. cellKind κ a ≡ cellKind κ b)
+settled-exact : (t : List ℕ) → Good t → (a b : ℕ) → Proper t a → Proper t b → 8 ≤ a → 8 ≤ b → (a ≡ b → ⊥)
+    → Exact t (settled t a b) (λ κ. cellKind κ a ≡ cellKind κ b)
 unfolding settled
 settled-exact t G a b A B la lb ne =
     by-lt a 10
     (λ (h : a < 10). rw (choose-true (bad t) _ (lt-ltb a 10 h)) (failed t _ (λ κ K s q. apart t a b A B la lb (omega arith) ne (λ m. h) κ s q)))
     (λ (h : 10 ≤ a). rw (choose-false (bad t) _ (le-ltb a 10 h)) (by-lt b 10
-    (λ (k : b < 10). rw (choose-true (bad t) _ (lt-ltb b 10 k)) (failed t _ (λ κ K s q. apart t b a B A lb la (omega arith) (λ e. ne (sym e)) (λ m. k) κ s (sym q))))
+    (λ (k : b < 10). rw (choose-true (bad t) _ (lt-ltb b 10 k))
+    (failed t _ (λ κ K s q. apart t b a B A lb la (omega arith) (λ e. ne (sym e)) (λ m. k) κ s (sym q))))
     (λ (k : 10 ≤ b). rw (choose-false (bad t) _ (le-ltb b 10 k)) (by-lt 11 a
     (λ (m : 11 < a). rw (choose-true (good (relabel 8 t a b)) _ (lt-ltb 11 a m)) (joined t G a b ne A (λ _ x. omega arith) (λ _. k) B))
     (λ (m : a ≤ 11). rw (choose-false (good (relabel 8 t a b)) _ (le-ltb 11 a m)) (by-lt 11 b
@@ -229,7 +222,8 @@ merged-exact t G a b A B =
     (λ (h : a < 8). rw (choose-true (good (relabel 8 t a b)) _ (lt-ltb a 8 h)) (joined t G a b ne A (λ x _. omega arith) (λ x. absurd (omega arith)) B))
     (λ (h : 8 ≤ a). rw (choose-false (good (relabel 8 t a b)) _ (le-ltb a 8 h)) (by-lt b 8
     (λ (k : b < 8). rw (choose-true (good (relabel 8 t b a)) _ (lt-ltb b 8 k))
-    (said t _ (λ κ. cellKind κ b ≡ cellKind κ a) _ (λ κ K s q. sym q) (λ κ K s q. sym q) (joined t G b a (λ e. ne (sym e)) B (λ x _. omega arith) (λ x. absurd (omega arith)) A)))
+    (said t _ (λ κ. cellKind κ b ≡ cellKind κ a) _ (λ κ K s q. sym q) (λ κ K s q. sym q)
+    (joined t G b a (λ e. ne (sym e)) B (λ x _. omega arith) (λ x. absurd (omega arith)) A)))
     (λ (k : 8 ≤ b). rw (choose-false (good (relabel 8 t b a)) _ (le-ltb b 8 k)) (settled-exact t G a b A B h k ne))))))
 
 -- ---- a term's cell
@@ -278,11 +272,14 @@ counted-exact t G a A =
     rw (choose-true (good (relabel 8 t a (a + 12))) _ (lt-ltb a 8 h)) record {
       sound = λ _. good-after t G a (a + 12) ne A fr up (counts a h refl w);
       back = λ _ κ K s. (solves-before t G a (a + 12) ne A fr up κ s, rw (kind-var κ a h) (s a h .1 (rw w (omega arith))));
-      on = λ _ κ K s q. solves-after t G a (a + 12) ne A fr up κ s (kind-var κ a h ∙ sym (kind-count κ (a + 12) a refl)) (λ _. rw (kind-count κ (a + 12) a refl) (rw (kind-var κ a h) at q));
+      on = λ _ κ K s q.
+          let count = kind-count κ (a + 12) a refl in
+          solves-after t G a (a + 12) ne A fr up κ s (kind-var κ a h ∙ sym count) (λ _. rw count (rw (kind-var κ a h) at q));
       never = λ x. absurd (false≢true (sym x));
     })
     (λ (h : 8 ≤ a). rw (choose-false (good (relabel 8 t a (a + 12))) _ (le-ltb a 8 h)) (by-lt a 10
-    (λ (k : a < 10). rw (choose-true (bad t) (good t) (lt-ltb a 10 k)) (failed t _ (λ κ K s q. let f : cellKind κ a ≡ a - 7 = kind-fixed κ a h (omega arith) in omega arith)))
+    (λ (k : a < 10). rw (choose-true (bad t) (good t) (lt-ltb a 10 k))
+    (failed t _ (λ κ K s q. let f : cellKind κ a ≡ a - 7 = kind-fixed κ a h (omega arith) in omega arith)))
     (λ (k : 10 ≤ a). rw (choose-false (bad t) (good t) (le-ltb a 10 k)) (kept t _ G (λ κ K s. by-lt a 12
     (λ (m : a < 12). let f : cellKind κ a ≡ a - 7 = kind-fixed κ a h m in omega arith)
     (λ (m : 12 ≤ a). low κ t a A s m))))))
@@ -304,7 +301,8 @@ asked-exact (number l) t G = numbered-exact t G l
 
 -- ---- all that is asked
 
-both-of : (t : List ℕ) (f : Fit) (g : List ℕ → Fit) (C D : List ℕ → Type 0) → Exact t f C → ((u : List ℕ) → Good u → Exact u (g u) D) → Exact t (fitThen f g) (λ κ. C κ × D κ)
+both-of : (t : List ℕ) (f : Fit) (g : List ℕ → Fit) (C D : List ℕ → Type 0) → Exact t f C → ((u : List ℕ) → Good u → Exact u (g u) D)
+    → Exact t (fitThen f g) (λ κ. C κ × D κ)
 unfolding fitThen
 both-of t f g C D X Y = go (f .ok) refl
   where

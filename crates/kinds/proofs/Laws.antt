@@ -15,7 +15,8 @@ pub relabel-none : (n : ℕ) (t : List ℕ) (a b : ℕ) → n ≡ 0 → t ≡ re
 unfolding relabel
 relabel-none n t a b e = rw e
 
-pub relabel-hit : (n : ℕ) (t : List ℕ) (a b : ℕ) (z : List ℕ) → (n ≡ 0 → ⊥) → getD t (n - 1) 0 ≡ a → z ≡ relabel (n - 1) (set t (n - 1) b) a b → z ≡ relabel n t a b
+pub relabel-hit : (n : ℕ) (t : List ℕ) (a b : ℕ) (z : List ℕ) → (n ≡ 0 → ⊥) → getD t (n - 1) 0 ≡ a → z ≡ relabel (n - 1) (set t (n - 1) b) a b
+    → z ≡ relabel n t a b
 unfolding relabel
 relabel-hit zero t a b z h e g = absurd (h refl)
 relabel-hit (suc n) t a b z h e g = let e′ = rw sub-one at e in rw (choose-true (set t n b) t (eq-eqb (getD t n 0) a e′)) (rw sub-one at g)
@@ -51,21 +52,21 @@ pub feed-differ : (l r : ℕ) (qs : List Ask) (t : List ℕ) (y : Fit) → y ≡
 unfolding feed asked
 feed-differ l r qs t y d e = then-bad (alike t l r) y (feed qs) d e
 
-pub feed-last : (l r : ℕ) (t : List ℕ) (y : Fit) → y ≡ alike t l r → y ≡ feed (same l r ∷ []) t
-unfolding feed asked fitThen
-feed-last l r t y d = rw (← d) (go (y .ok) refl)
+-- a fit that is taken as it is
+itself : (y : Fit) → y ≡ choose (y .ok) (good (y .of)) y
+itself y = go (y .ok) refl
   where
     go : (b : Bool) → y .ok ≡ b → y ≡ choose (y .ok) (good (y .of)) y
     go true e = on-yes (y .ok) (good (y .of)) y y e (rw (← e))
     go false e = on-no (y .ok) (good (y .of)) y y e refl
 
+pub feed-last : (l r : ℕ) (t : List ℕ) (y : Fit) → y ≡ alike t l r → y ≡ feed (same l r ∷ []) t
+unfolding feed asked fitThen
+feed-last l r t y d = rw (← d) (itself y)
+
 pub feed-number : (l : ℕ) (t : List ℕ) (y : Fit) → y ≡ numbered t l → y ≡ feed (number l ∷ []) t
 unfolding feed asked fitThen
-feed-number l t y d = rw (← d) (go (y .ok) refl)
-  where
-    go : (b : Bool) → y .ok ≡ b → y ≡ choose (y .ok) (good (y .of)) y
-    go true e = on-yes (y .ok) (good (y .of)) y y e (rw (← e))
-    go false e = on-no (y .ok) (good (y .of)) y y e refl
+feed-number l t y d = rw (← d) (itself y)
 
 pub feed-choice : (b : Bool) (x y : List Ask) (t : List ℕ) (z : Fit) → z ≡ choose b (feed x t) (feed y t) → z ≡ feed (choose b x y) t
 unfolding choose

@@ -13,7 +13,8 @@ use Rattle.wire.proofs.Reading.{choose-true, choose-false}
 use Rattle.kinds.specs.Cells.{Ask, same, feed, nothing}
 use Rattle.kinds.specs.Asks.{kindTerm}
 use Rattle.kinds.specs.Choices.{Choice, kindIn, Meets, MeetsAll, Meetable}
-use Rattle.kinds.proofs.Exact.{cellKind, Proper, leads, fixed, counts, Good, Solves, Exact, term-var, term-fixed, kind-var, kind-fixed, kind-count, feed-exact}
+use Rattle.kinds.proofs.Exact.{cellKind, Proper, leads, fixed, counts, Good, Solves, Exact, term-var, term-fixed, kind-var, kind-fixed, kind-count}
+use Rattle.kinds.proofs.Exact.{feed-exact}
 
 -- ---- choices that cells stand for: kind a for each class, kind b for each class of days or quantities
 
@@ -53,7 +54,8 @@ module _ (a b : ℕ) (la : 1 ≤ a) (ha : a ≤ 4) (lb : 3 ≤ b) (hb : b ≤ 4)
   chosen-solves : (c : ℕ) → Proper t c → (pick a b c ≡ cellKind (chosen a b t) c) × (12 ≤ c → 3 ≤ pick a b c)
   chosen-solves c (leads l e) = (ap (pick a b) (sym e) ∙ sym (chosen-at a b t G c l) ∙ sym (kind-var (chosen a b t) c l), λ h. absurd (omega arith))
   chosen-solves c (fixed l k) = (pick-fixed a b c l k ∙ sym (kind-fixed (chosen a b t) c l k), λ h. absurd (omega arith))
-  chosen-solves c (counts v l e d) = (ap (pick a b) (sym d) ∙ sym (chosen-at a b t G v l) ∙ sym (kind-count (chosen a b t) c v e), λ h. rw (pick-count a b c h) lb)
+  chosen-solves c (counts v l e d) =
+      (ap (pick a b) (sym d) ∙ sym (chosen-at a b t G v l) ∙ sym (kind-count (chosen a b t) c v e), λ h. rw (pick-count a b c h) lb)
 
   chosen-choice : Choice (chosen a b t)
   chosen-choice = (length-map t (pick a b) ∙ G .0, λ v l. rw (chosen-at a b t G v l) (chosen-kind (getD t v 0) (G .1 v l)))
@@ -131,7 +133,9 @@ module _ (qs : List Ask) where
         let x : 1 ≡ k = sym (pick-var 1 3 (getD cells v 0) h) ∙ picked 1 3 (omega arith) (omega arith) (omega arith) (omega arith) in
         let y : 2 ≡ k = sym (pick-var 2 3 (getD cells v 0) h) ∙ picked 2 3 (omega arith) (omega arith) (omega arith) (omega arith) in
         absurd (omega arith)
-    settled (fixed h d) = let x : getD cells v 0 - 7 ≡ k = sym (pick-fixed 1 3 (getD cells v 0) h d) ∙ picked 1 3 (omega arith) (omega arith) (omega arith) (omega arith) in omega arith
+    settled (fixed h d) =
+        let x : getD cells v 0 - 7 ≡ k = sym (pick-fixed 1 3 (getD cells v 0) h d) ∙ picked 1 3 (omega arith) (omega arith) (omega arith) (omega arith) in
+        omega arith
     settled (counts w h c d) =
         let x : 3 ≡ k = sym (pick-count 1 3 (getD cells v 0) (omega arith)) ∙ picked 1 3 (omega arith) (omega arith) (omega arith) (omega arith) in
         let y : 4 ≡ k = sym (pick-count 1 4 (getD cells v 0) (omega arith)) ∙ picked 1 4 (omega arith) (omega arith) (omega arith) (omega arith) in

@@ -2,18 +2,19 @@
 use mathlib.Core.Path.{_≡_, refl, sym, _∙_}
 use mathlib.Core.Logic.{_↔_, ⊎-elim}
 use mathlib.Core.Bool.{Bool, true, false, _&&_, _||_}
-use mathlib.Core.List.{List, [], _∷_, map, List·Memᴰ, List·Memᴰ·head, List·Memᴰ·tail, List·Memᴰ·not-nil, List·Memᴰ·cases-cons, List·Memᴰ·append-cases, Memᴰ·map, List·Memᴰ·eq-of-singleton}
+use mathlib.Core.List.{List, [], _∷_, map, List·Memᴰ, List·Memᴰ·head, List·Memᴰ·tail, List·Memᴰ·not-nil, List·Memᴰ·cases-cons, List·Memᴰ·append-cases, Memᴰ·map}
+use mathlib.Core.List.{List·Memᴰ·eq-of-singleton}
 use Prim.Native.Nat.{ℕ, zero, suc, _+_, _-_, _≤_, _<_}
 use native.Mathlib.Decide.{decLt}
 use native.Mathlib.Omega.{arith}
-use lib.Dec.{T, eqb, ltb, eqb→eq, ltb→lt, lt→ltb}
+use lib.Dec.{T, eqb, ltb, eqb→eq, ltb→lt, lt→ltb, leb, leb→le}
 use lib.ListN.{length, getD, List·getD-eq-default}
 use borrow.Author.Tests.{lt-ltb, le-ltb}
 use Rattle.model.specs.Bytes.{choose}
 use Rattle.model.specs.Lists.{all, each}
 use Rattle.model.specs.Syntax.{Expr, con, var, today, Constraint, Constant, varsOf, varsTest}
 use Rattle.model.specs.Kinds.{Demands, kindAt, kindUnder, inPlace, operands, comparable, meets, fitting, kinds, occurring, kindOf}
-use Rattle.model.proofs.ListFacts.{and-of, and-in, or-of, or-left, or-right, eqb-in, each-of}
+use Rattle.model.proofs.ListFacts.{and-of, and-in, or-of, or-left, or-right, eqb-in, each-of, all-of}
 use Rattle.model.proofs.KindFacts.{fitting↔, one-kind}
 use Rattle.wire.proofs.Reading.{choose-true, choose-false}
 use Rattle.kinds.specs.Cells.{Ask, same, number, feed, nothing}
@@ -21,6 +22,8 @@ use Rattle.kinds.specs.Asks.{kindTerm, varTerm, termOf, placeTerm, askPl
 use Rattle.kinds.specs.Choices.{Choice, kindIn, Meets, MeetsAll}
 use Rattle.kinds.proofs.Exact.{term-var, term-fixed}
 use Rattle.kinds.proofs.Meaning.{kind-term, feed-law, sole-kind, member-met, meets-append}
+use Rattle.model.proofs.Tests.{by-lt}
+use Rattle.model.proofs.ByteFacts.{below-length}
 
 -- ---- a term stands for a kind, or for none
 
@@ -42,7 +45,10 @@ module _ (κ : List ℕ) (K : Choice κ) where
   of-var v = go (decLt v 8)
     where
       go : Dec (v < 8) → Stands κ (varTerm v) (getD κ v 0)
-      go (yes h) = let k = K .1 v h in let e : varTerm v ≡ v = choose-false 12 v (le-ltb 7 v (omega arith)) in for (rw e (omega arith)) (rw e (term-var κ v h)) (k .0) (k .1)
+      go (yes h) =
+          let k = K .1 v h in
+          let e : varTerm v ≡ v = choose-false 12 v (le-ltb 7 v (omega arith)) in
+          for (rw e (omega arith)) (rw e (term-var κ v h)) (k .0) (k .1)
       go (no h) =
           let l : length κ ≡ 8 = K .0 in
           let e : varTerm v ≡ 12 = choose-true 12 v (lt-ltb 7 v (omega arith)) in
@@ -90,7 +96,8 @@ module _ (κ : List ℕ) (K : Choice κ) where
       λ m. let e = same-kinds s r .0 (m .0) in and-in (eqb k l) (ltb 0 k) (eqb-in (e .1)) (lt→ltb 0 k (e .0)),
     )
 
-    both-kind : (j : ℕ) → 1 ≤ j → j ≤ 4 → {a b k l : ℕ} → Stands κ a k → Stands κ b l → T (eqb k j && eqb l j) ↔ (Meets κ (same a b) × (Meets κ (same a (j + 7)) × Unit {0}))
+    both-kind : (j : ℕ) → 1 ≤ j → j ≤ 4 → {a b k l : ℕ} → Stands κ a k → Stands κ b l
+        → T (eqb k j && eqb l j) ↔ (Meets κ (same a b) × (Meets κ (same a (j + 7)) × Unit {0}))
     both-kind j lo hi {k = k} {l = l} s r = (
       λ t. let e = two-of k l j t in (same-kinds s r .1 (omega arith, e .0 ∙ sym (e .1)), (fixed-kinds j lo hi s .1 (e .0), tt)),
       λ m. let e = same-kinds s r .0 (m .0) in let d = fixed-kinds j lo hi s .0 (m .1 .0) in two-in k l j d (sym (e .1) ∙ d),
@@ -115,7 +122,8 @@ module _ (κ : List ℕ) (K : Choice κ) where
     test-kinds (suc (suc (suc (suc (suc zero))))) lo hi s r = both-kind 3 (omega arith) (omega arith) s r
     test-kinds (suc (suc (suc (suc (suc (suc op)))))) lo hi s r = absurd (omega arith)
 
-    all-tests : (ts : List Constraint) → ((c : Constraint) → List·Memᴰ c ts → (1 ≤ c .op) × (c .op ≤ 5)) → T (all (comparable cs κ) ts) ↔ MeetsAll κ (each ts (askTest cs))
+    all-tests : (ts : List Constraint) → ((c : Constraint) → List·Memᴰ c ts → (1 ≤ c .op) × (c .op ≤ 5))
+        → T (all (comparable cs κ) ts) ↔ MeetsAll κ (each ts (askTest cs))
     unfolding askTest
     all-tests [] h = (λ t. tt, λ m. tt)
     all-tests (c ∷ ts) h =
@@ -143,7 +151,8 @@ module _ (κ : List ℕ) (K : Choice κ) where
         go (var v) = in-place (p .0) l h (of-var v)
         go today = (λ t. absurd t, λ m. absurd (let w = m .0 in omega arith))
 
-    all-places : (ps : List (ℕ × Expr)) → ((p : ℕ × Expr) → List·Memᴰ p ps → (1 ≤ p .0) × (p .0 ≤ 4)) → T (all (inPlace cs κ) ps) ↔ MeetsAll κ (map (askPlace cs) ps)
+    all-places : (ps : List (ℕ × Expr)) → ((p : ℕ × Expr) → List·Memᴰ p ps → (1 ≤ p .0) × (p .0 ≤ 4))
+        → T (all (inPlace cs κ) ps) ↔ MeetsAll κ (map (askPlace cs) ps)
     all-places [] h = (λ t. tt, λ m. tt)
     all-places (p ∷ ps) h =
         let k = h p (List·Memᴰ·head refl) in
@@ -164,7 +173,10 @@ meets-asks cs D R κ K =
 -- ---- the model's choices are these
 
 kind-of : (k : ℕ) → List·Memᴰ k kinds → (1 ≤ k) × (k ≤ 4)
-kind-of k m = ⊎-elim (λ e. rw e (omega arith, omega arith)) (λ m. ⊎-elim (λ e. rw e (omega arith, omega arith)) (λ m. ⊎-elim (λ e. rw e (omega arith, omega arith)) (λ m. ⊎-elim (λ e. rw e (omega arith, omega arith)) (λ m. absurd (List·Memᴰ·not-nil m)) (List·Memᴰ·cases-cons m)) (List·Memᴰ·cases-cons m)) (List·Memᴰ·cases-cons m)) (List·Memᴰ·cases-cons m)
+kind-of k m =
+    let t = all-of (λ (k : ℕ). leb 1 k && leb k 4) {xs = kinds} tt m in
+    let r = and-of (leb 1 k) (leb k 4) t in
+    (leb→le 1 k (r .0), leb→le k 4 (r .1))
 
 kind-in : (k : ℕ) → 1 ≤ k → k ≤ 4 → List·Memᴰ k kinds
 kind-in zero l h = absurd (omega arith)
@@ -184,11 +196,7 @@ same-test false false f g = refl
 module _ (cs : List Constant) where
   low-var : (v : ℕ) → varTerm v ≤ 11 → v < 8
   unfolding varTerm
-  low-var v h = go (decLt v 8)
-    where
-      go : Dec (v < 8) → v < 8
-      go (yes l) = l
-      go (no l) = absurd (let e : varTerm v ≡ 12 = choose-true 12 v (lt-ltb 7 v (omega arith)) in omega arith)
+  low-var v h = by-lt v 8 (λ l. l) (λ l. absurd (let e : varTerm v ≡ 12 = choose-true 12 v (lt-ltb 7 v (omega arith)) in omega arith))
 
   low-place : (e : Expr) (v : ℕ) → List·Memᴰ v (varsOf e) → placeTerm cs e ≤ 11 → v < 8
   unfolding placeTerm
@@ -216,7 +224,9 @@ module _ (cs : List Constant) where
   low-vars D κ m v n =
       let w = meets-append κ (map (askPlace cs) (D .places)) (each (D .tests) (askTest cs)) .0 m in
       ⊎-elim
-      (λ a. let r = each-of (λ (p : ℕ × Expr). varsOf (p .1)) (D .places) a in low-place (r .0 .1) v (r .2) (member-met κ (Memᴰ·map (askPlace cs) (r .1)) (w .0) .0))
+      (λ a.
+      let r = each-of (λ (p : ℕ × Expr). varsOf (p .1)) (D .places) a in
+      low-place (r .0 .1) v (r .2) (member-met κ (Memᴰ·map (askPlace cs) (r .1)) (w .0) .0))
       (λ b. let r = each-of varsTest (D .tests) b in low-test κ (r .0) v (tests-met κ (D .tests) (w .1) (r .1)) (r .2))
       (List·Memᴰ·append-cases (each (D .places) (λ (p : ℕ × Expr). varsOf (p .1))) n)
 
@@ -224,7 +234,10 @@ module _ (cs : List Constant) (D : Demands) (R : Regular cs D) where
   -- LAW C, for asks that come to the same: the cells are good exactly if a choice of kinds fits
   pub fits-asks : (qs : List Ask) → ((κ : List ℕ) → MeetsAll κ qs ↔ MeetsAll κ (asksFor cs D)) → feed qs nothing .ok ≡ fitting cs D
   fits-asks qs h = same-test (feed qs nothing .ok) (fitting cs D)
-      (λ e. let r = feed-law qs .0 e in fitting↔ cs D .1 (r .0, r .1 .0, λ v l. let k = r .1 .1 v l in kind-in (getD (r .0) v 0) (k .0) (k .1), meets-asks cs D R (r .0) (r .1) .1 (h (r .0) .0 (r .2))))
+      (λ e.
+      let r = feed-law qs .0 e in
+      let met = meets-asks cs D R (r .0) (r .1) .1 (h (r .0) .0 (r .2)) in
+      fitting↔ cs D .1 (r .0, r .1 .0, λ v l. let k = r .1 .1 v l in kind-in (getD (r .0) v 0) (k .0) (k .1), met))
       (λ t. let r = fitting↔ cs D .0 t in
       let K : Choice (r .0) = (r .1, λ v l. kind-of (getD (r .0) v 0) (r .2 v l)) in
       feed-law qs .1 (r .0, K, h (r .0) .1 (meets-asks cs D R (r .0) K .0 (r .3))))
@@ -242,14 +255,11 @@ module _ (cs : List Constant) (D : Demands) (R : Regular cs D) where
   -- LAW D, in the model's words: the cell of a variable with a place in a fact has its kind
   pub kind-cell : (qs : List Ask) → ((κ : List ℕ) → MeetsAll κ qs ↔ MeetsAll κ (asksFor cs D)) → feed qs nothing .ok ≡ true
       → (v : ℕ) → (¬ (kindOf (D .places) v ≡ 0)) → getD (feed qs nothing .of) v 0 ≡ kindOf (D .places) v + 7
-  kind-cell qs h e v n = sole-kind qs e v (kindOf (D .places) v) (go (decLt v 8)) one
+  kind-cell qs h e v n = sole-kind qs e v (kindOf (D .places) v) low one
     where
       one : (κ : List ℕ) → Choice κ → MeetsAll κ qs → getD κ v 0 ≡ kindOf (D .places) v
-      one κ K m = one-kind cs κ (D .places) (and-of (all (inPlace cs κ) (D .places)) (all (comparable cs κ) (D .tests)) (meets-asks cs D R κ K .1 (h κ .0 m)) .0) v n
+      one κ K m =
+          one-kind cs κ (D .places) (and-of (all (inPlace cs κ) (D .places)) (all (comparable cs κ) (D .tests)) (meets-asks cs D R κ K .1 (h κ .0 m)) .0) v n
 
-      go : Dec (v < 8) → v < 8
-      go (yes l) = l
-      go (no l) =
-          let r = feed-law qs .0 e in
-          let w : length (r .0) ≡ 8 = r .1 .0 in
-          absurd (n (sym (one (r .0) (r .1) (r .2)) ∙ List·getD-eq-default (r .0) 0 (omega arith)))
+      low : v < 8
+      low = let r = feed-law qs .0 e in below-length (r .0) 8 (r .1 .0) v (λ z. n (sym (one (r .0) (r .1) (r .2)) ∙ z))

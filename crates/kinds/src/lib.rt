@@ -20,8 +20,8 @@ const OPEN_NUMBER: u8 = NO_FIT;
 
 // Whether what was asked fits, and the variables' cells after it.
 pub struct Fit {
-    pub ok: bool,
     pub of: [u8; VARIABLES],
+    pub ok: bool,
 }
 
 // Every cell a among the first n becomes b.

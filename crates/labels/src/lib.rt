@@ -3,15 +3,23 @@ ghost use mathlib.Core.Path.{_≡_};
 ghost use Prim.Native.Nat.{_+_, _<_, _≤_};
 ghost use lib.ListN.{length};
 ghost use Rattle.model.specs.Bytes.{bytesAt};
+ghost use Rattle.model.specs.Readings.{hasLabel};
 ghost use Rattle.model.specs.Values.{alike};
 ghost use Rattle.wire.specs.Budget.{farthest};
 ghost use Rattle.labels.specs.Hash.{buckets, hashOf};
 
 pub const BUCKETS: usize = 251;
 
+// "Kind 1 principal and 2 thing: label"
+pub fn has_label(kind: usize) -> bool
+    ensures { λ r. ⌜ r ≡ hasLabel kind ⌝ }
+{
+    kind == limits::PRINCIPAL || kind == limits::THING
+}
+
 // The label of n bytes that stands at p of the left slice is alike to that at q of the right one. A byte past the end reads 0.
 pub fn alike(left: &[u8], p: usize, right: &[u8], q: usize, n: usize) -> bool
-    requires { ⌜ (p + n ≤ farthest) × (q + n ≤ farthest) ⌝ }
+    requires { ⌜ (p + n ≤ farthest + farthest) × (q + n ≤ farthest + farthest) ⌝ }
     ensures { λ r. ⌜ r ≡ alike (bytesAt n (now (left .entry)) p) (bytesAt n (now (right .entry)) q) ⌝ }
 {
     if n == 0 {

@@ -8,8 +8,7 @@ use Prim.Native.Nat.{ℕ, zero, suc, _+_, _-_, _*_, _≤_, _<_}
 use native.Mathlib.Decide.{decLt}
 use native.Mathlib.Omega.{arith}
 use lib.Dec.{T, eqb, ltb}
-use lib.ListN.{length, getD, take, replicate, length-map, length-append}
-use lib.Seq.{take-at}
+use lib.ListN.{length, getD, take, length-map, length-append}
 use borrow.Author.Tests.{lt-ltb, eqb-true}
 use Rattle.model.specs.Limits.{maxConstants, maxVerbs}
 use Rattle.model.specs.Syntax.{Constant, Verb}
@@ -27,7 +26,7 @@ use Rattle.policy.specs.declared.Index.{Index}
 use Rattle.policy.specs.Index.{held, kindTable, indexOf, refusal, handedOut}
 use Rattle.policy.proofs.FormFacts.{constant-two}
 use Rattle.policy.proofs.ItemFacts.{constant-right}
-use Rattle.policy.proofs.TableFacts.{held-at, kind-is}
+use Rattle.policy.proofs.TableFacts.{held-at, kind-is, held-front, held-long}
 use Rattle.demands.specs.Lookups.{constantOffsets, verbOffsets, noNumber, firstOf, isNamed, numberIn}
 use Rattle.lookup.specs.Named.{Near, Standing, namedAt}
 use Rattle.lookup.proofs.Laws.{first-same}
@@ -148,23 +147,22 @@ module _ (s : List ℕ) (bytes : (i : ℕ) → byteAt s i < 256) where
 
 -- ---- as the code takes it: x is what the reader handed out
 
-held-front : (n : ℕ) (l : List ℕ) → take (length l) (held n l) ≡ l
-unfolding held
-held-front n l = take-at l (replicate (n - length l) 0) (length l) refl
-
-held-long : (n : ℕ) (l : List ℕ) → length l ≤ length (held n l)
-unfolding held
-held-long n l = omega (arith, length-append l (replicate (n - length l) 0))
-
 front-of : {A : Type 0} (n : ℕ) (js : List (Item A)) → take (length js) (held n (offsets js)) ≡ offsets js
 front-of n js = ap (λ (k : ℕ). take k (held n (offsets js))) (sym (length-map js (λ i. i .at))) ∙ held-front n (offsets js)
+
+-- the first numbers of a list that the reader handed out, and the model's offsets
+pub record Laid (ats : List ℕ) (count : ℕ) (model : List ℕ) : Type 0 where
+  pub near : Near ats count
+  pub few : count ≤ 255
+  pub counted : count ≡ length model
+  pub front : take count ats ≡ model
 
 module _ (s : List ℕ) (x : Index) (h : x ≡ handedOut (readPolicy s)) where
   -- what holds of the index of every reading of s
   to-index : (Q : Index → Type 0) → ((r : Reading Accepted) → readPolicy s ≡ r → Q (handedOut r)) → Q x
   to-index Q f = subst Q (sym h) (f (readPolicy s) refl)
 
-  pub constants-front : take (x .constants) (x .«constant_at») ≡ constantOffsets (readPolicy s)
+  constants-front : take (x .constants) (x .«constant_at») ≡ constantOffsets (readPolicy s)
   unfolding handedOut indexOf refusal constantOffsets
   constants-front = go (readPolicy s) h
     where
@@ -172,7 +170,7 @@ module _ (s : List ℕ) (x : Index) (h : x ≡ handedOut (readPolicy s)) where
       go (got A e) i = subst (λ (y : Index). take (y .constants) (y .«constant_at») ≡ offsets (A .constants)) (sym i) (front-of maxConstants (A .constants))
       go (refused n p) i = subst (λ (y : Index). take (y .constants) (y .«constant_at») ≡ []) (sym i) refl
 
-  pub verbs-front : take (x .verbs) (x .«verb_at») ≡ verbOffsets (readPolicy s)
+  verbs-front : take (x .verbs) (x .«verb_at») ≡ verbOffsets (readPolicy s)
   unfolding handedOut indexOf refusal verbOffsets
   verbs-front = go (readPolicy s) h
     where
@@ -180,7 +178,7 @@ module _ (s : List ℕ) (x : Index) (h : x ≡ handedOut (readPolicy s)) where
       go (got A e) i = subst (λ (y : Index). take (y .verbs) (y .«verb_at») ≡ offsets (A .verbs)) (sym i) (front-of maxVerbs (A .verbs))
       go (refused n p) i = subst (λ (y : Index). take (y .verbs) (y .«verb_at») ≡ []) (sym i) refl
 
-  pub constants-count : x .constants ≡ length (constantOffsets (readPolicy s))
+  constants-count : x .constants ≡ length (constantOffsets (readPolicy s))
   unfolding handedOut indexOf refusal constantOffsets
   constants-count = go (readPolicy s) h
     where
@@ -188,7 +186,7 @@ module _ (s : List ℕ) (x : Index) (h : x ≡ handedOut (readPolicy s)) where
       go (got A e) i = ap (λ (y : Index). y .constants) i ∙ sym (length-map (A .constants) (λ i. i .at))
       go (refused n p) i = ap (λ (y : Index). y .constants) i
 
-  pub verbs-count : x .verbs ≡ length (verbOffsets (readPolicy s))
+  verbs-count : x .verbs ≡ length (verbOffsets (readPolicy s))
   unfolding handedOut indexOf refusal verbOffsets
   verbs-count = go (readPolicy s) h
     where
@@ -225,7 +223,7 @@ module _ (s : List ℕ) (x : Index) (h : x ≡ handedOut (readPolicy s)) where
           },
         )
 
-    pub verbs-near : (x .verbs ≤ 64) × Near (x .«verb_at») (x .verbs)
+    verbs-near : (x .verbs ≤ 64) × Near (x .«verb_at») (x .verbs)
     unfolding handedOut indexOf refusal
     verbs-near = to-index (λ (y : Index). (y .verbs ≤ 64) × Near (y .«verb_at») (y .verbs)) go
       where
@@ -240,6 +238,13 @@ module _ (s : List ℕ) (x : Index) (h : x ≡ handedOut (readPolicy s)) where
               },
             )
         go (refused n p) i = (omega arith, record { within = omega arith; small = λ k q. absurd (omega arith) })
+
+    -- so both lists of offsets can be laid out: they are near, and the model's
+    pub constants-laid : Laid (x .«constant_at») (x .constants) (constantOffsets (readPolicy s))
+    constants-laid = let w = constants-stand in record { near = w .1 .near; few = w .0; counted = constants-count; front = constants-front }
+
+    pub verbs-laid : Laid (x .«verb_at») (x .verbs) (verbOffsets (readPolicy s))
+    verbs-laid = let w = verbs-near in record { near = w .1; few = (let l = w .0 in omega arith); counted = verbs-count; front = verbs-front }
 
     -- the number that the search by offsets finds is the model's
     pub number-is : (kind : ℕ) (label : List ℕ) → hasLabel kind ≡ true → (z : ℕ)

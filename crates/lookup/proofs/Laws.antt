@@ -12,6 +12,7 @@ use Rattle.wire.proofs.Reading.{choose-true, choose-false}
 use Rattle.model.specs.Bytes.{byteAt, bytesAt, choose}
 use Rattle.model.specs.Lists.{sameList}
 use Rattle.demands.specs.Lookups.{laid, noNumber, firstOf}
+use Rattle.model.proofs.ByteFacts.{bytes-length, bytes-at}
 
 -- ---- the first numbers of L over the first places of a buffer
 
@@ -79,11 +80,6 @@ first-same f g i (suc n) h =
 
 -- ---- labels
 
-pub bytes-length : (n : ℕ) (s : List ℕ) (p : ℕ) → length (bytesAt n s p) ≡ n
-unfolding bytesAt
-bytes-length zero s p = refl
-bytes-length (suc n) s p = ap suc (bytes-length n s (p + 1))
-
 lengths-differ : (l r : List ℕ) → (length l ≡ length r → ⊥) → false ≡ sameList l r
 lengths-differ [] [] h = absurd (h refl)
 lengths-differ [] (y ∷ r) h = refl
@@ -93,12 +89,6 @@ lengths-differ (x ∷ l) (y ∷ r) h = go (eqb x y) (lengths-differ l r (λ e. h
     go : (b : Bool) {c : Bool} → false ≡ c → false ≡ (b && c)
     go true e = e
     go false e = refl
-
-bytes-at : (n : ℕ) (s : List ℕ) (p i : ℕ) → i < n → getD (bytesAt n s p) i 0 ≡ byteAt s (p + i)
-unfolding bytesAt
-bytes-at zero s p i h = absurd (omega arith)
-bytes-at (suc n) s p zero h = let e : p ≡ p + 0 = omega arith in ap (byteAt s) e
-bytes-at (suc n) s p (suc i) h = let e : p + 1 + i ≡ p + suc i = omega arith in bytes-at n s (p + 1) i (omega arith) ∙ ap (byteAt s) e
 
 all-bytes : (l : List ℕ) → bytesAt (length l) l 0 ≡ l
 all-bytes l =

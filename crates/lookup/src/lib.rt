@@ -3,7 +3,6 @@ ghost use mathlib.Core.Path.{_≡_};
 ghost use Prim.Native.Nat.{ℕ, _+_, _-_, min, _≤_, _<_};
 ghost use lib.ListN.{length, getD, take};
 ghost use Rattle.model.specs.Bytes.{byteAt, bytesAt};
-ghost use Rattle.model.specs.Readings.{hasLabel};
 ghost use Rattle.model.specs.Values.{alike};
 ghost use Rattle.model.specs.Policies.{readPolicy};
 ghost use Rattle.wire.specs.Budget.{farthest};
@@ -102,18 +101,11 @@ fn first(
     first(policy, kinds, ats, kind, label, i + 1, n - 1)
 }
 
-// "Kind 1 principal and 2 thing: label"
-fn has_label(kind: usize) -> bool
-    ensures { λ r. ⌜ r ≡ hasLabel kind ⌝ }
-{
-    kind == limits::PRINCIPAL || kind == limits::THING
-}
-
 // The number of the constant of this kind that has this label, `NO_NUMBER` where there is none.
 pub fn find(policy: &[u8], kind: u32, label: &[u8]) -> u32
     ensures { λ r. ⌜ r ≡ numberIn (readPolicy (now (policy .entry))) kind (now (label .entry)) ⌝ }
 {
-    if has_label(kind as usize) {
+    if labels::has_label(kind as usize) {
         let x = policy::read(policy);
         let kinds = x.kinds;
         let ats = x.constant_at;

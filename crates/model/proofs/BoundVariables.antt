@@ -19,8 +19,8 @@ use Rattle.model.specs.Forms.{isKind}
 use Rattle.model.specs.Binding.{Fits, Binds, inPlaces}
 use Rattle.model.proofs.ListFacts.{and-of, and-in}
 use Rattle.model.specs.Theorems.{ReadAs}
-use Rattle.model.proofs.ReadFacts.{Fine, accepted-fine}
-use Rattle.model.proofs.ProperRequests.{accepted-kinded}
+use Rattle.model.proofs.ReadFacts.{Fine, policy-fine}
+use Rattle.model.proofs.ProperRequests.{policy-kinded}
 use Rattle.model.proofs.KindFacts.{fitting↔, one-kind}
 use Rattle.model.proofs.BindingFacts.{ofKind-of, ofKind-in, bindings-of, bindings-in, at-variable}
 
@@ -159,15 +159,11 @@ instances policy P h t a m θ = (
     S : List ℕ
     S = inPlaces D
 
-    kinded : (v : ℕ) → T (all isKind (paramKinds (P .verbs) v))
-    kinded = subst (λ (Q : Policy). (v : ℕ) → T (all isKind (paramKinds (Q .verbs) v))) (h .3) (accepted-kinded policy (h .0) (h .1) (h .2))
-
     has : (v : ℕ) → T (member v S) → ¬ (kindOf (D .places) v ≡ 0)
-    has v u = a-place (D .places) (facts-kinded (P .verbs) kinded (a .head ∷ a .body)) v u
+    has v u = a-place (D .places) (facts-kinded (P .verbs) (policy-kinded policy P h) (a .head ∷ a .body)) v u
 
     fine : Fine (P .constants) (P .verbs) a
-    fine = subst (λ (Q : Policy). (x : Assertion) → List·Memᴰ x (Q .assertions) → Fine (Q .constants) (Q .verbs) x) (h .3)
-        (accepted-fine policy (h .0) (h .1) (h .2)) a m
+    fine = policy-fine policy P h a m
 
     fit : T (fitting cs D)
     fit = and-of (eqb (kindAt cs (a .issuer)) principal) (fitting cs D) (fine .fit) .1

@@ -1,4 +1,5 @@
--- Dates and day numbers are inverse to each other: a month is walked day by day, a year month by month, and the years one after another, so each date is reached on the day that is its number.
+-- Dates and day numbers are inverse to each other: a month is walked day by day, a year month by month, and the years one after another, so each date is
+-- reached on the day that is its number.
 use mathlib.Core.Path.{_≡_, refl, sym, ap, subst, _∙_}
 use mathlib.Core.Logic.{_≢_}
 use mathlib.Core.Bool.{Bool, true, false, cond}
@@ -47,8 +48,20 @@ months P h (suc (suc (suc (suc (suc (suc (suc (suc (suc (suc (suc (suc zero)))))
 months P h (suc (suc (suc (suc (suc (suc (suc (suc (suc (suc (suc (suc (suc m))))))))))))) a z = absurd (omega arith)
 
 pub some-days : (y m : ℕ) → 1 ≤ m → m ≤ 12 → 1 ≤ monthDays y m
-some-days y m a z = months (λ (m : ℕ). 1 ≤ monthDays y m)
-    (omega arith, february (leapYear y), omega arith, omega arith, omega arith, omega arith, omega arith, omega arith, omega arith, omega arith, omega arith, omega arith) m a z
+some-days y m a z = months (λ (m : ℕ). 1 ≤ monthDays y m) (
+  omega arith,
+  february (leapYear y),
+  omega arith,
+  omega arith,
+  omega arith,
+  omega arith,
+  omega arith,
+  omega arith,
+  omega arith,
+  omega arith,
+  omega arith,
+  omega arith,
+) m a z
   where
     february : (b : Bool) → 1 ≤ cond b 29 28
     february true = omega arith
@@ -78,7 +91,8 @@ firsts n y (suc m) e h =
     let last : dateOf (n + daysOfMonths y m + (monthDays y (suc m) - 1)) ≡ date y (suc m) (suc (monthDays y (suc m) - 1))
     = within (n + daysOfMonths y m) y (suc m) (monthDays y (suc m) - 1) (firsts n y m e (omega arith)) (omega (arith, some)) in
     let day : suc (n + daysOfMonths y m + (monthDays y (suc m) - 1)) ≡ n + (daysOfMonths y m + monthDays y (suc m)) = omega (arith, some) in
-    ap dateOf (sym day) ∙ next (n + daysOfMonths y m + (monthDays y (suc m) - 1)) last (to-month y (suc m) (suc (monthDays y (suc m) - 1)) (omega (arith, some)) h)
+    ap dateOf (sym day)
+    ∙ next (n + daysOfMonths y m + (monthDays y (suc m) - 1)) last (to-month y (suc m) (suc (monthDays y (suc m) - 1)) (omega (arith, some)) h)
 
 -- the first of each year
 day-zero : dateOf 0 ≡ date 2000 1 1
@@ -89,7 +103,8 @@ pub new-year : (k : ℕ) → dateOf (daysOfYears k) ≡ date (2000 + k) 1 1
 unfolding daysOfYears
 new-year zero = day-zero
 new-year (suc k) =
-    let december : dateOf (daysOfYears k + daysOfMonths (2000 + k) 11) ≡ date (2000 + k) 12 1 = firsts (daysOfYears k) (2000 + k) 11 (new-year k) (omega arith) in
+    let december : dateOf (daysOfYears k + daysOfMonths (2000 + k) 11) ≡ date (2000 + k) 12 1 =
+    firsts (daysOfYears k) (2000 + k) 11 (new-year k) (omega arith) in
     let end : ℕ = daysOfYears k + daysOfMonths (2000 + k) 11 + 30 in
     let last : dateOf end ≡ date (2000 + k) 12 31 = within (daysOfYears k + daysOfMonths (2000 + k) 11) (2000 + k) 12 30 december (omega arith) in
     let day : suc end ≡ daysOfYears k + yearDays (2000 + k) = omega (arith, twelve (2000 + k)) in
@@ -99,7 +114,8 @@ new-year (suc k) =
 pub forth : (d : Date) → IsDate d → dateOf (dayOf d) ≡ d
 forth d h =
     let year : 2000 + (d .year - 2000) ≡ d .year = omega (arith, h .since) in
-    let first : dateOf (daysOfYears (d .year - 2000)) ≡ date (d .year) 1 1 = subst (λ (y : ℕ). dateOf (daysOfYears (d .year - 2000)) ≡ date y 1 1) year (new-year (d .year - 2000)) in
+    let first : dateOf (daysOfYears (d .year - 2000)) ≡ date (d .year) 1 1 =
+    subst (λ (y : ℕ). dateOf (daysOfYears (d .year - 2000)) ≡ date y 1 1) year (new-year (d .year - 2000)) in
     let month : suc (d .month - 1) ≡ d .month = omega (arith, h .month) in
     let of-month : dateOf (daysOfYears (d .year - 2000) + daysOfMonths (d .year) (d .month - 1)) ≡ date (d .year) (d .month) 1
     = subst (λ (m : ℕ). dateOf (daysOfYears (d .year - 2000) + daysOfMonths (d .year) (d .month - 1)) ≡ date (d .year) m 1) month
@@ -146,7 +162,11 @@ on n d (h, e) = go (decLt (d .day) (monthDays (d .year) (d .month))) (decLt (d .
         (record { since = h .since; month = h .month; months = h .months; day = omega arith; days = l }, omega (arith, e, some))
     go (no l) (yes m) = rw (to-month (d .year) (d .month) (d .day) (omega (arith, l)) m) (
       record { since = h .since; month = omega arith; months = m; day = omega arith; days = some-days (d .year) (suc (d .month)) (omega arith) m },
-      (let k : daysOfMonths (d .year) (suc (d .month) - 1) ≡ daysOfMonths (d .year) (d .month) = (let same : suc (d .month) - 1 ≡ d .month = omega arith in ap (daysOfMonths (d .year)) same) in omega (arith, e, some, k, counted, last l)),
+      (
+          let same : suc (d .month) - 1 ≡ d .month = omega arith in
+          let k : daysOfMonths (d .year) (suc (d .month) - 1) ≡ daysOfMonths (d .year) (d .month) = ap (daysOfMonths (d .year)) same in
+          omega (arith, e, some, k, counted, last l)
+          ),
     )
     go (no l) (no m) = rw (to-year (d .year) (d .month) (d .day) (omega (arith, l)) (omega (arith, m))) (
       record { since = (let a : 2000 ≤ d .year = h .since in omega arith); month = omega arith; months = omega arith; day = omega arith; days = omega arith },

@@ -1,15 +1,14 @@
 -- What an accepted node is sure to have: it ends where its tree ends, it asked what its tree asks, and the tree is sound.
 use mathlib.Core.Path.{_≡_, refl, sym, _∙_, ap, subst}
-use mathlib.Core.Bool.{Bool, true, false}
 use mathlib.Core.List.{List, append-assoc, append-nil}
 use Prim.Native.Nat.{ℕ, zero, suc, _+_, _≤_, _<_}
 use native.Mathlib.Omega.{arith}
 use lib.ListN.{length}
-use lib.Dec.{T, ltb, leb}
+use lib.Dec.{ltb, leb}
 use borrow.Author.Tests.{leb-true}
 use Rattle.model.specs.Syntax.{Constant, Verb, Node, Nodes, says, test, allOf, anyOf, non, exists, end, more}
 use Rattle.model.specs.Kinds.{Demands, noDemands, joined, demandsIn, demandsAll, fitting}
-use Rattle.model.specs.Bytes.{byteAt, choose, both, Reading, got}
+use Rattle.model.specs.Bytes.{byteAt, Reading, got}
 use Rattle.model.specs.Readings.{exprAt, factAt, factEnd, constraintAt, Sort, saysSort, testSort, allSort, anySort, notSort, existsSort, noSort}
 use Rattle.model.specs.Readings.{sortOf, endsBy, nodesBy, endBy, nodeEnd, nodeBy, nodeAt}
 use Rattle.model.specs.Forms.{Form, ends, broken, noVerb, factForm}
@@ -17,16 +16,7 @@ use Rattle.model.specs.Nodes.{partsForm, variableForm, checkParts, fitte
 use Rattle.model.specs.Records.{Arity}
 use Rattle.model.proofs.ReadFacts.{never, choose-yes, choose-no, andThen-got, levels-arity}
 use Rattle.model.proofs.ReaderEnds.{form-ends}
-
-both-first : (a b : Bool) → both a b ≡ true → a ≡ true
-unfolding both choose
-both-first true b e = refl
-both-first false b e = e
-
-both-second : (a b : Bool) → both a b ≡ true → b ≡ true
-unfolding both choose
-both-second true b e = e
-both-second false b e = absurd (let z : _≡_ {A = ℕ} 0 1 = cc in omega arith)
+use Rattle.model.proofs.Tests.{T-true, both-first, both-second}
 
 -- ---- demands, one after another
 
@@ -118,10 +108,6 @@ module _ (vs : List Verb) where
     unfolding nodesBy
     some-part f g zero at h = absurd (omega arith)
     some-part f g (suc n) at h = tt
-
-    T-true : (b : Bool) → T b → b ≡ true
-    T-true true t = refl
-    T-true false t = absurd t
 
     by-checked : (k : Sort) (h : Demands → ℕ → Reading Demands) (f : ℕ → Node) (g : ℕ → ℕ) → Checks h f g → (D : Demands) (at : ℕ) (E : Demands) (e : ℕ)
         → checkBy cs vs s k h D at ≡ got E e

@@ -53,7 +53,8 @@ rounds-found W 𝒜 n c r =
     let h = S.rounds-le eqSaid (step W 𝒜) (Rule W 𝒜) eqSaid-of eqSaid-refl (step-of W 𝒜) (step-in W 𝒜) (suc c) 0 in
     rw (sorted-round (found W 𝒜 n c r), sorted-length keyOf (found W 𝒜 n c r)) (omega arith)
 
-rounds-result : (W : World) (𝒜 : List Assertion) (n : Node) (c r : ℕ) (facts answers : List ℕ) {o : Outcome} → Result W 𝒜 n c r o → reported o facts answers .rounds ≤ reported o facts answers .facts
+rounds-result : (W : World) (𝒜 : List Assertion) (n : Node) (c r : ℕ) (facts answers : List ℕ) {o : Outcome} → Result W 𝒜 n c r o
+    → reported o facts answers .rounds ≤ reported o facts answers .facts
 rounds-result W 𝒜 n c r facts answers (over h) = zero-le
 rounds-result W 𝒜 n c r facts answers (many h k) = rounds-found W 𝒜 n c r
 rounds-result W 𝒜 n c r facts answers (fine h k) = rounds-found W 𝒜 n c r
@@ -61,7 +62,11 @@ rounds-result W 𝒜 n c r facts answers (fine h k) = rounds-found W 𝒜 n c r
 rounds-on : (P : Policy) (r : Reading Request) (facts answers : List ℕ) → decisionOn P r facts answers .rounds ≤ decisionOn P r facts answers .facts
 unfolding decisionOn
 rounds-on P (got q e) facts answers =
-    rounds-result (worldOf P q) (countingIn P q) (q .node) (capacity facts) (room answers) facts answers (result (worldOf P q) (countingIn P q) (q .node) (capacity facts) (room answers))
+    let W = worldOf P q in
+    let 𝒜 = countingIn P q in
+    let c = capacity facts in
+    let r = room answers in
+    rounds-result W 𝒜 (q .node) c r facts answers (result W 𝒜 (q .node) c r)
 rounds-on P (refused n p) facts answers = zero-le
 
 rounds-by : (r : Reading Accepted) (request facts answers : List ℕ) → decisionBy r request facts answers .rounds ≤ decisionBy r request facts answers .facts
@@ -85,7 +90,8 @@ answer-at (θ ∷ A) rest h (suc i) l =
     let d : drop (answerBytes * suc i) (answersBytes (θ ∷ A) ++ rest) ≡ drop (answerBytes * i) (answersBytes A ++ rest) =
     ap (λ (k : ℕ). drop k (answersBytes (θ ∷ A) ++ rest)) e
     ∙ (sym (drop-drop (answerBytes * i) answerBytes (answersBytes (θ ∷ A) ++ rest))
-    ∙ ap (drop (answerBytes * i)) (ap (drop answerBytes) (append-assoc θ (answersBytes A) rest) ∙ drop-at θ (answersBytes A ++ rest) answerBytes (h θ (List·Memᴰ·head refl)))) in
+    ∙ ap (drop (answerBytes * i))
+    (ap (drop answerBytes) (append-assoc θ (answersBytes A) rest) ∙ drop-at θ (answersBytes A ++ rest) answerBytes (h θ (List·Memᴰ·head refl)))) in
     ap (take answerBytes) d ∙ answer-at A rest (λ η m. h η (List·Memᴰ·tail m)) i (le-of-suc-le-suc l)
 
 module _ {X : Type 0} (d : X) where

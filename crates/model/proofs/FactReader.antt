@@ -7,9 +7,9 @@ use native.Mathlib.Decide.{decLt}
 use native.Mathlib.Omega.{arith}
 use lib.ListN.{length}
 use lib.Dec.{ltb, leb}
-use borrow.Author.Tests.{lt-ltb, le-ltb, le-leb, lt-leb}
-use Rattle.model.specs.Limits.{unlimited, maxNest}
-use Rattle.model.specs.Syntax.{Expr, Fact, flat, canSay, Verb}
+use borrow.Author.Tests.{lt-ltb, le-ltb, le-leb, lt-leb, eq-eqb, ne-eqb}
+use Rattle.model.specs.Limits.{unlimited, maxNest, firstVariable, todayCode}
+use Rattle.model.specs.Syntax.{Expr, Fact, flat, canSay, Verb, con, var, today}
 use Rattle.model.specs.Bytes.{byteAt, choose, Reading, got, refused, andThen}
 use Rattle.model.specs.Readings.{exprOf, exprAt, exprsAt, arityOf, levelsAt, factAt, factEnd, factsAt, factsEnd}
 use Rattle.model.specs.Forms.{Form, ends, broken, noVerb, thenForm, phraseForm, levelsForm, factForm, factsForm}
@@ -63,6 +63,19 @@ module _ {A B : Type 0} where
   as-then at noVerb x z h f g y k = refl
 
 -- ---- expressions
+
+-- an expression by its code
+pub expr-today : (x : ℕ) → x ≡ todayCode → exprOf x ≡ today
+unfolding exprOf choose
+expr-today x e = rw (eq-eqb x todayCode e)
+
+pub expr-con : (x : ℕ) → (x ≡ todayCode → ⊥) → x < firstVariable → exprOf x ≡ con x
+unfolding exprOf choose
+expr-con x h l = rw (ne-eqb x todayCode h, lt-ltb x firstVariable l)
+
+pub expr-var : (x : ℕ) → firstVariable ≤ x → exprOf x ≡ var (x - firstVariable)
+unfolding exprOf choose
+expr-var x l = rw (ne-eqb x todayCode (λ e. omega arith), le-ltb x firstVariable l)
 
 module _ (s : List ℕ) (at e : ℕ) where
   pub expr-in : (p q : ℕ) → p + 2 ≡ q → q ≤ e → expr s at e p ≡ got (exprAt s p) q

@@ -27,9 +27,9 @@ use Rattle.model.proofs.ReadFacts.{choose-yes, choose-no, andThen-got, 
 use Rattle.model.specs.Bytes.{got}
 use Rattle.model.specs.Nodes.{safely, requestFrom, computedRequest, readRequest}
 use Rattle.model.proofs.RequestReader.{request-is}
-use Rattle.model.proofs.ProperRequests.{accepted-kinded, node-fits}
+use Rattle.model.proofs.ProperRequests.{policy-kinded, node-fits}
 use Rattle.model.proofs.KindFacts.{one-kind}
-use Rattle.model.proofs.Grounded.{low-cell}
+use Rattle.model.proofs.ByteFacts.{below-length}
 use Rattle.model.proofs.BoundVariables.{varsAt, kindedAt, a-place, all-join, places-kinded, binds-of, binds-in}
 
 -- ---- requests: what is known after a node was known before it or has a place in it
@@ -177,9 +177,6 @@ module _ (policy request : List ℕ) (P : Policy) (q : Request) (h : ReadAs poli
   pub whole : Asked cs (P .verbs) n
   whole = asked cs (P .verbs) request q (r .0) (r .1)
 
-  kinded : (v : ℕ) → T (all isKind (paramKinds (P .verbs) v))
-  kinded = subst (λ (Q : Policy). (v : ℕ) → T (all isKind (paramKinds (Q .verbs) v))) (h .3) (accepted-kinded policy (h .0) (h .1) (h .2))
-
   after : (O : List ℕ) × (known n [] ≡ some O) × T (among (free n) O)
   after =
       let s = and-of (isSafe (known n []) (free n) && apart (binders n)) (all (λ v. not (member v (free n))) (binders n)) (whole .safe) in
@@ -189,7 +186,8 @@ module _ (policy request : List ℕ) (P : Policy) (q : Request) (h : ReadAs poli
   pub free-placed : (v : ℕ) → T (member v (free n)) → ¬ (kindOf (D .places) v ≡ 0)
   free-placed v u =
       let t : T (member v (after .0)) = all-of (λ w. member w (after .0)) (after .2) (member-of v (free n) u) in
-      a-place (D .places) (node-kinded (P .verbs) kinded n) v (⊎-elim (λ z. absurd z) (λ z. z) (into (P .verbs) n (whole .sound) [] (after .0) (after .1) v t))
+      let u = into (P .verbs) n (whole .sound) [] (after .0) (after .1) v t in
+      a-place (D .places) (node-kinded (P .verbs) (policy-kinded policy P h) n) v (⊎-elim (λ z. absurd z) (λ z. z) u)
 
   -- "Bindings range over the policy's constants of the variable's kind. .. 255 where not free"
   pub answering : (θ : List ℕ) → List·Memᴰ θ (bindingsIn (worldOf P q) n) ↔ ((κ : List ℕ) × Fits cs D κ × Binds cs κ (free n) θ)
@@ -203,5 +201,5 @@ module _ (policy request : List ℕ) (P : Policy) (q : Request) (h : ReadAs poli
       let κ = w .0 in
       let f = w .1 in
       let e = one-kind cs κ (D .places) (and-of (all (inPlace cs κ) (D .places)) (all (comparable cs κ) (D .tests)) (f .2) .0) v (free-placed v t) in
-      let l = low-cell κ (f .0) v (λ z. free-placed v t (sym e ∙ z)) in
+      let l = below-length κ 8 (f .0) v (λ z. free-placed v t (sym e ∙ z)) in
       (subst (λ (k : ℕ). List·Memᴰ k kinds) e (f .1 v l), w .2 .1 v l .0 t ∙ e)

@@ -1,11 +1,10 @@
 -- Every derived statement is ground: each number in it is a constant of its place's kind. By induction on the derivation; of an instance its binding says so.
-use mathlib.Core.Path.{_≡_, refl, sym, ap₂, subst, _∙_}
+use mathlib.Core.Path.{_≡_, refl, sym, ap₂, _∙_}
 use mathlib.Core.List.{List, [], _∷_, map, List·Memᴰ, List·Memᴰ·head, List·Memᴰ·tail}
 use mathlib.Core.Bool.{false}
 use Prim.Native.Nat.{ℕ, _<_, _≤_}
-use native.Mathlib.Decide.{decLt}
 use native.Mathlib.Omega.{arith}
-use lib.ListN.{length, getD, List·getD-eq-default}
+use lib.ListN.{length, getD}
 use lib.Dec.{T, eqb, leb, leb→le, eqb→eq}
 use Rattle.model.specs.Limits.{principal, quantity, unlimited, unbound, canActAs}
 use Rattle.model.specs.Lists.{all, each, member}
@@ -23,18 +22,10 @@ use Rattle.model.specs.Deciding.{countingIn}
 use Rattle.model.specs.Forms.{isKind}
 use Rattle.model.specs.Theorems.{ReadAs, DerivableIn, GroundFact, GroundSaid}
 use Rattle.model.proofs.ListFacts.{and-of, all-of, keep-of, each-in, eqb-in, or-left, member-of, member-in}
-use Rattle.model.proofs.ReadFacts.{Fine, accepted-fine}
-use Rattle.model.proofs.ProperRequests.{accepted-kinded}
+use Rattle.model.proofs.ReadFacts.{Fine, policy-fine}
+use Rattle.model.proofs.ProperRequests.{policy-kinded}
 use Rattle.model.proofs.BoundVariables.{kindedAt, facts-kinded, instances}
-
--- ---- a choice of kinds speaks of the eight variables alone
-
-pub low-cell : (κ : List ℕ) → length κ ≡ 8 → (v : ℕ) → (¬ (getD κ v 0 ≡ 0)) → v < 8
-low-cell κ l v n = go (decLt v 8)
-  where
-    go : Dec (v < 8) → v < 8
-    go (yes h) = h
-    go (no h) = absurd (n (List·getD-eq-default κ 0 (let q : 8 ≤ v = omega arith in rw l q)))
+use Rattle.model.proofs.ByteFacts.{below-length}
 
 some-kind : (k : ℕ) → T (isKind k) → ¬ (k ≡ 0)
 some-kind k i z = let o : 1 ≤ k = leb→le 1 k (and-of (leb 1 k) (leb k quantity) i .0) in omega arith
@@ -48,7 +39,7 @@ module _ (cs : List Constant) (κ θ : List ℕ) (l : length κ ≡ 8) where
   in-place k today i t h = absurd t
   in-place k (var v) i t h =
       let e = eqb→eq (getD κ v 0) k t in
-      h v (low-cell κ l v (λ z. some-kind k i (sym e ∙ z))) (or-left (eqb v v) false (eqb-in {m = v} {n = v} refl)) ∙ e
+      h v (below-length κ 8 l v (λ z. some-kind k i (sym e ∙ z))) (or-left (eqb v v) false (eqb-in {m = v} {n = v} refl)) ∙ e
 
 module _ (cs : List Constant) (vs : List Verb) (θ : List ℕ) where
   params-ground : (ks : List ℕ) (es : List Expr) → length es ≡ length ks
@@ -82,12 +73,8 @@ module _ (policy : List ℕ) (P : Policy) (q : Request) (r : ReadAs policy P) wh
   abbrev W : World
   W = worldOf P q
 
-  kinded : (v : ℕ) → T (all isKind (paramKinds vs v))
-  kinded = subst (λ (Q : Policy). (v : ℕ) → T (all isKind (paramKinds (Q .verbs) v))) (r .3) (accepted-kinded policy (r .0) (r .1) (r .2))
-
   fine : (a : Assertion) → List·Memᴰ a (P .assertions) → Fine cs vs a
-  fine = subst (λ (Q : Policy). (x : Assertion) → List·Memᴰ x (Q .assertions) → Fine (Q .constants) (Q .verbs) x) (r .3)
-      (accepted-fine policy (r .0) (r .1) (r .2))
+  fine = policy-fine policy P r
 
   counted : (a : Assertion) → List·Memᴰ a (countingIn P q) → List·Memᴰ a (P .assertions)
   counted a m = keep-of (issuedIn (reach W (P .assertions) (issuers (q .node) W))) (P .assertions) m .0
@@ -103,7 +90,7 @@ module _ (policy : List ℕ) (P : Policy) (q : Request) (r : ReadAs policy P) wh
 
       at : (p : ℕ × Expr) → List·Memᴰ p (D .places) → kindAt cs (bound θ (p .1)) ≡ p .0
       at p i =
-          in-place cs κ θ (f .0) (p .0) (p .1) (all-of kindedAt (facts-kinded vs kinded (a .head ∷ a .body)) i)
+          in-place cs κ θ (f .0) (p .0) (p .1) (all-of kindedAt (facts-kinded vs (policy-kinded policy P r) (a .head ∷ a .body)) i)
           (all-of (inPlace cs κ) (and-of (all (inPlace cs κ) (D .places)) (all (comparable cs κ) (D .tests)) (f .2) .0) i)
           (λ v l t. b .1 v l .0 (member-in (each-in (λ (x : ℕ × Expr). varsOf (x .1)) i (member-of v (varsOf (p .1)) t))))
 

@@ -5,7 +5,6 @@ use Prim.Native.Nat.{ℕ}
 use lib.ListN.{set}
 use Rattle.model.specs.Syntax.{Assertion, World, Said, Node, Nodes, says, test, allOf, anyOf, non, exists, end, more}
 use Rattle.model.specs.Rules.{Rule}
-use Rattle.model.specs.Reach.{Joins, asks, names}
 use Rattle.model.specs.Reached.{issuedIn, reach, counting}
 use Rattle.model.specs.Requests.{Holds, HoldAll, HoldAny}
 use Rattle.model.specs.Theorems.{Adds, Positive, Positives}
@@ -13,7 +12,7 @@ use Rattle.model.proofs.ListFacts.{member-of, member-in, keep-of, keep-
 use Rattle.model.proofs.ClosureFacts.{derives-more}
 use Rattle.model.proofs.StepFacts.{rule-mono}
 use Rattle.model.proofs.ReachFacts.{reach-of, reach-in}
-use Rattle.model.proofs.Outside.{adds-in}
+use Rattle.model.proofs.Outside.{adds-in, joins-more}
 
 module _ (W : World) (kind : ℕ → ℕ) (D E : Said → Type 0) (up : (x : Said) → D x → E x) where
   mutual
@@ -34,15 +33,12 @@ module _ (W : World) (kind : ℕ → ℕ) (D E : Said → Type 0) (up : (x : Sai
     any-more (more n ns) θ p h = ⊎-elim (λ k. inl (holds-more n θ (p .0) k)) (λ k. inr (any-more ns θ (p .1) k)) h
 
 module _ (W : World) (asked : List ℕ) {Q : Assertion → Type 0} {𝒜 ℬ : List Assertion} (s : Adds Q 𝒜 ℬ) where
-  joins-more : (ps : List ℕ) (p : ℕ) → Joins W 𝒜 asked ps p → Joins W ℬ asked ps p
-  joins-more ps p (asks m) = asks m
-  joins-more ps p (names m n) = names (adds-in s m) n
-
   counting-grows : {a : Assertion} → List·Memᴰ a (counting W 𝒜 asked) → List·Memᴰ a (counting W ℬ asked)
   counting-grows {a} m =
+      let p = a .issuer in
       let k = keep-of (issuedIn (reach W 𝒜 asked)) 𝒜 m in
-      keep-in (issuedIn (reach W ℬ asked)) (adds-in s (k .0))
-      (member-in (reach-in W ℬ asked (a .issuer) (derives-more joins-more (reach-of W 𝒜 asked (a .issuer) (member-of (a .issuer) (reach W 𝒜 asked) (k .1))))))
+      let r = derives-more (joins-more W asked s) (reach-of W 𝒜 asked p (member-of p (reach W 𝒜 asked) (k .1))) in
+      keep-in (issuedIn (reach W ℬ asked)) (adds-in s (k .0)) (member-in (reach-in W ℬ asked p r))
 
   pub rule-grows : (ps : List Said) (x : Said) → Rule W (counting W 𝒜 asked) ps x → Rule W (counting W ℬ asked) ps x
   rule-grows = rule-mono W (λ a m. counting-grows m)

@@ -2,11 +2,10 @@
 use mathlib.Core.Path.{_≡_, refl, sym, ap, subst, _∙_}
 use mathlib.Core.Logic.{_↔_, _⊎_, inl, inr, ⊎-elim}
 use mathlib.Core.List.{List, [], _∷_, _++_, map, List·Memᴰ, List·Memᴰ·head, List·Memᴰ·tail, List·Memᴰ·cases-cons, List·Memᴰ·eq-of-singleton, Memᴰ·of-map}
-use mathlib.Core.Bool.{Bool, true, false}
 use Prim.Native.Nat.{ℕ, zero, suc, _<_}
 use native.Mathlib.Omega.{arith}
 use lib.ListN.{length, getD}
-use lib.Dec.{T, eqb, eqb-refl}
+use lib.Dec.{eqb, eqb-refl}
 use Rattle.model.specs.Limits.{principal, unlimited, unbound}
 use Rattle.model.specs.Lists.{each}
 use Rattle.model.specs.Syntax.{Expr, con, var, today, Fact, flat, canSay, mapFact, subject, about, Constant, Verb, Assertion, World, Said, said}
@@ -22,20 +21,18 @@ use Rattle.model.proofs.ClosureFacts.{within-more}
 use Rattle.model.proofs.BindingFacts.{bindings-of, at-variable}
 use Rattle.model.proofs.StepFacts.{subject-about, rule-mono}
 use Rattle.model.proofs.ReachFacts.{reach-in}
+use Rattle.model.proofs.Tests.{T-true}
 
 -- ---- bindings
 
 -- a variable of an assertion is bound to a constant of its kind
-bound-kind : (W : World) (a : Assertion) (v : ℕ) (θ : List ℕ) → v < 8 → List·Memᴰ θ (bindingsOf W a) → List·Memᴰ (getD θ v unbound) (choices (W .constants) (kindsOf W a v))
+bound-kind : (W : World) (a : Assertion) (v : ℕ) (θ : List ℕ) → v < 8 → List·Memᴰ θ (bindingsOf W a)
+    → List·Memᴰ (getD θ v unbound) (choices (W .constants) (kindsOf W a v))
 bound-kind W a v θ h m =
     rw (at-variable (kindsOf W a) v h) at (bindings-of (W .constants) (map (kindsOf W a) variables) θ m .1 v h)
 
-T→true : (b : Bool) → T b → b ≡ true
-T→true true t = refl
-T→true false t = absurd t
-
 kind-here : (ps : List (ℕ × Expr)) (k v : ℕ) → kindOf ((k, var v) ∷ ps) v ≡ k
-kind-here ps k v = rw (T→true (eqb v v) (eqb-refl v))
+kind-here ps k v = rw (T-true (eqb v v) (eqb-refl v))
 
 -- ---- what is said within the reach stays within it
 
@@ -58,25 +55,34 @@ module _ (W : World) (asked : List ℕ) (𝒜 : List Assertion) (placed : (a : A
   abbrev In : ℕ → Type 0
   In p = Reach W 𝒜 asked p
 
-  joining-in : (a : Assertion) (θ : List ℕ) (e : Expr) → List·Memᴰ θ (bindingsOf W a) → Placed e → ((v : ℕ) → e ≡ var v → kindsOf W a v ≡ principal) → List·Memᴰ (bound θ e) (joining W e)
+  joining-in : (a : Assertion) (θ : List ℕ) (e : Expr) → List·Memᴰ θ (bindingsOf W a) → Placed e → ((v : ℕ) → e ≡ var v → kindsOf W a v ≡ principal)
+      → List·Memᴰ (bound θ e) (joining W e)
   joining-in a θ (con c) m p k = List·Memᴰ·head refl
   joining-in a θ (var v) m p k = subst (λ (n : ℕ). List·Memᴰ (getD θ v unbound) (choices (W .constants) n)) (k v refl) (bound-kind W a v θ p m)
   joining-in a θ today m p k = absurd p
 
   kind-subject : (vs : List Verb) (f : Fact Expr) (r : List (ℕ × Expr)) (v : ℕ) → subject f ≡ var v → kindOf (places vs f ++ r) v ≡ principal
-  kind-subject vs (flat s n ps) r v e = subst (λ (x : Expr). kindOf ((principal, x) ∷ (pair (paramKinds vs n) ps ++ r)) v ≡ principal) (sym e) (kind-here (pair (paramKinds vs n) ps ++ r) principal v)
-  kind-subject vs (canSay s d f) r v e = subst (λ (x : Expr). kindOf ((principal, x) ∷ (places vs f ++ r)) v ≡ principal) (sym e) (kind-here (places vs f ++ r) principal v)
+  kind-subject vs (flat s n ps) r v e =
+      let rest = pair (paramKinds vs n) ps ++ r in
+      subst (λ (x : Expr). kindOf ((principal, x) ∷ rest) v ≡ principal) (sym e) (kind-here rest principal v)
+  kind-subject vs (canSay s d f) r v e =
+      subst (λ (x : Expr). kindOf ((principal, x) ∷ (places vs f ++ r)) v ≡ principal) (sym e) (kind-here (places vs f ++ r) principal v)
 
   -- the head's ground subject, where it is one that joins, is among those that the assertion brings in
-  head-brings : (a : Assertion) (θ : List ℕ) (f : Fact Expr) → List·Memᴰ (bound θ (subject f)) (joining W (subject f)) → Vouches (mapFact (bound θ) f) → List·Memᴰ (subject (mapFact (bound θ) f)) (namedBy W f)
+  head-brings : (a : Assertion) (θ : List ℕ) (f : Fact Expr) → List·Memᴰ (bound θ (subject f)) (joining W (subject f)) → Vouches (mapFact (bound θ) f)
+      → List·Memᴰ (subject (mapFact (bound θ) f)) (namedBy W f)
   head-brings a θ (flat s zero ps) m v = m
   head-brings a θ (flat s (suc n) ps) m v = absurd v
   head-brings a θ (canSay s d f) m v = m
 
-  vouch-rule : {ps : List Said} {x : Said} → Rule W 𝒜 ps x → ((y : Said) → List·Memᴰ y ps → In (who y) → Vouches (what y) → In (subject (what y))) → In (who x) → Vouches (what x) → In (subject (what x))
+  vouch-rule : {ps : List Said} {x : Said} → Rule W 𝒜 ps x → ((y : Said) → List·Memᴰ y ps → In (who y) → Vouches (what y) → In (subject (what y)))
+      → In (who x) → Vouches (what x) → In (subject (what x))
   vouch-rule (cond {a} {d} {θ} m n o t) ih r v =
-      by (names m (head-brings a θ (a .head) (joining-in a θ (subject (a .head)) o (placed a m) (kind-subject (W .verbs) (a .head) (each (a .body) (places (W .verbs))))) v)) (λ y e. subst In (sym (List·Memᴰ·eq-of-singleton e)) r)
-  vouch-rule (canSays {a} {b} {k} {f}) ih r v = ih (said b k f) (List·Memᴰ·tail (List·Memᴰ·head refl)) (ih (said a unlimited (canSay b k f)) (List·Memᴰ·head refl) r tt) v
+      let kinds = kind-subject (W .verbs) (a .head) (each (a .body) (places (W .verbs))) in
+      let subjects = joining-in a θ (subject (a .head)) o (placed a m) kinds in
+      by (names m (head-brings a θ (a .head) subjects v)) (λ y e. subst In (sym (List·Memᴰ·eq-of-singleton e)) r)
+  vouch-rule (canSays {a} {b} {k} {f}) ih r v =
+      ih (said b k f) (List·Memᴰ·tail (List·Memᴰ·head refl)) (ih (said a unlimited (canSay b k f)) (List·Memᴰ·head refl) r tt) v
   vouch-rule (actsAs {a} {d} {b} {c} f) ih r v = subst In (sym (subject-about b f)) (ih (said a d (flat b 0 (c ∷ []))) (List·Memᴰ·head refl) r tt)
 
   vouch : (n : ℕ) (x : Said) → Within (Rule W 𝒜) n x → In (who x) → Vouches (what x) → In (subject (what x))
@@ -87,7 +93,8 @@ module _ (W : World) (asked : List ℕ) (𝒜 : List Assertion) (placed : (a : A
   abbrev counted : List Assertion
   counted = counting W 𝒜 asked
 
-  inside-rule : {ps : List Said} {x : Said} → Rule W 𝒜 ps x → ((y : Said) → List·Memᴰ y ps → In (who y) → Vouches (what y) → In (subject (what y))) → In (who x) → Rule W counted ps x × ((y : Said) → List·Memᴰ y ps → In (who y))
+  inside-rule : {ps : List Said} {x : Said} → Rule W 𝒜 ps x → ((y : Said) → List·Memᴰ y ps → In (who y) → Vouches (what y) → In (subject (what y)))
+      → In (who x) → Rule W counted ps x × ((y : Said) → List·Memᴰ y ps → In (who y))
   inside-rule (cond {a} {d} {θ} m n o t) ih r = (
     cond (keep-in (issuedIn (reach W 𝒜 asked)) m (member-in (reach-in W 𝒜 asked (a .issuer) r))) n o t,
     λ y e. let q = Memᴰ·of-map (λ (f : Fact Expr). said (a .issuer) d (mapFact (bound θ) f)) (a .body) e in subst (λ (z : Said). In (who z)) (q .2) r,
@@ -96,7 +103,9 @@ module _ (W : World) (asked : List ℕ) (𝒜 : List Assertion) (placed : (a : A
     canSays,
     λ y e. ⊎-elim
         (λ (q : y ≡ said a unlimited (canSay b k f)). subst (λ (z : Said). In (who z)) (sym q) r)
-        (λ (n : List·Memᴰ y (said b k f ∷ [])). subst (λ (z : Said). In (who z)) (sym (List·Memᴰ·eq-of-singleton n)) (ih (said a unlimited (canSay b k f)) (List·Memᴰ·head refl) r tt))
+        (λ (n : List·Memᴰ y (said b k f ∷ [])).
+        let who-says = ih (said a unlimited (canSay b k f)) (List·Memᴰ·head refl) r tt in
+        subst (λ (z : Said). In (who z)) (sym (List·Memᴰ·eq-of-singleton n)) who-says)
         (List·Memᴰ·cases-cons e),
   )
   inside-rule (actsAs {a} {d} {b} {c} f) ih r = (

@@ -25,6 +25,7 @@ use Rattle.model.proofs.ReaderLaws.{then-in, then-out, then-choose, the
 use Rattle.model.proofs.ReaderLaws.{u32-in, u32-out, byteIn-is, byteIn-out, upto-in, upto-out}
 use Rattle.model.proofs.FactReader.{asReading, as-skip, as-stop}
 use Rattle.model.proofs.AssertionReader.{closing, closing-yes, closing-no, statementAt, statement-is}
+use Rattle.model.proofs.ByteFacts.{bytes-length}
 
 -- ---- sized items
 
@@ -111,11 +112,6 @@ unfolding both choose
 and3 true true c = refl
 and3 true false c = refl
 and3 false b c = refl
-
-bytes-length : (n : ℕ) (s : List ℕ) (p : ℕ) → length (bytesAt n s p) ≡ n
-unfolding bytesAt
-bytes-length zero s p = refl
-bytes-length (suc n) s p = ap suc (bytes-length n s (p + 1))
 
 module _ (s : List ℕ) (at e : ℕ) where
   bytes-in : (n p q : ℕ) → p + n ≡ q → q ≤ e → times n (byte s) at e p ≡ got (bytesAt n s p) q

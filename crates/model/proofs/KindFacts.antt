@@ -12,7 +12,8 @@ use lib.Dec.{T, eqb, eqb→eq}
 use Rattle.model.specs.Limits.{principal}
 use Rattle.model.specs.Lists.{all, any, each, member, product}
 use Rattle.model.specs.Syntax.{Expr, con, var, today, Constraint, Constant, varsOf, varsTest}
-use Rattle.model.specs.Kinds.{Demands, kindUnder, inPlace, comparable, operands, meets, occurring, kinds, kindsFor, choicesOf, fitting, variables, kindOf, isVar}
+use Rattle.model.specs.Kinds.{Demands, kindUnder, inPlace, comparable, operands, meets, occurring, kinds, kindsFor, choicesOf, fitting, variables, kindOf}
+use Rattle.model.specs.Kinds.{isVar}
 use Rattle.model.proofs.ListFacts.{and-of, and-in, all-of, all-in, any-of, any-in, each-in, member-in}
 use Rattle.model.proofs.BindingFacts.{picks-of, picks-in, at-variable}
 
@@ -51,7 +52,8 @@ module _ (cs : List Constant) (D : Demands) where
   trimmed-in κ h = picks-in (kindsFor D) 0 variables (trimmed κ) (
     refl,
     λ v l.
-        rw (at-variable (λ (v : ℕ). cond (member v (occurring D)) (getD κ v 0) principal) v l, number v l) (all-of-one (member v (occurring D)) (getD κ v 0) (h .1 v l)),
+        rw (at-variable (λ (v : ℕ). cond (member v (occurring D)) (getD κ v 0) principal) v l, number v l)
+        (all-of-one (member v (occurring D)) (getD κ v 0) (h .1 v l)),
   )
 
   -- what occurs keeps its kind
@@ -59,20 +61,25 @@ module _ (cs : List Constant) (D : Demands) where
   trimmed-at κ h v m = go (decLt v 8)
     where
       go : Dec (v < 8) → getD (trimmed κ) v 0 ≡ getD κ v 0
-      go (yes l) = at-variable (λ (v : ℕ). cond (member v (occurring D)) (getD κ v 0) principal) v l ∙ same-at (member v (occurring D)) (getD κ v 0) principal (member-in m)
+      go (yes l) =
+          at-variable (λ (v : ℕ). cond (member v (occurring D)) (getD κ v 0) principal) v l
+          ∙ same-at (member v (occurring D)) (getD κ v 0) principal (member-in m)
       go (no l) = let e : 8 ≤ v = omega arith in List·getD-eq-default (trimmed κ) 0 e ∙ sym (List·getD-eq-default κ 0 (rw (h .0) e))
 
-  under-same : (κ : List ℕ) → Choice κ → (e : Expr) → ((v : ℕ) → List·Memᴰ v (varsOf e) → List·Memᴰ v (occurring D)) → kindUnder cs (trimmed κ) e ≡ kindUnder cs κ e
+  under-same : (κ : List ℕ) → Choice κ → (e : Expr) → ((v : ℕ) → List·Memᴰ v (varsOf e) → List·Memᴰ v (occurring D))
+      → kindUnder cs (trimmed κ) e ≡ kindUnder cs κ e
   under-same κ h (con c) o = refl
   under-same κ h (var v) o = trimmed-at κ h v (o v (List·Memᴰ·head refl))
   under-same κ h today o = refl
 
-  place-in : (κ : List ℕ) → Choice κ → (k : ℕ) (e : Expr) → ((v : ℕ) → List·Memᴰ v (varsOf e) → List·Memᴰ v (occurring D)) → T (inPlace cs κ (k, e)) → T (inPlace cs (trimmed κ) (k, e))
+  place-in : (κ : List ℕ) → Choice κ → (k : ℕ) (e : Expr) → ((v : ℕ) → List·Memᴰ v (varsOf e) → List·Memᴰ v (occurring D)) → T (inPlace cs κ (k, e))
+      → T (inPlace cs (trimmed κ) (k, e))
   place-in κ h k (con c) o t = t
   place-in κ h k (var v) o t = subst (λ (n : ℕ). T (eqb n k)) (sym (trimmed-at κ h v (o v (List·Memᴰ·head refl)))) t
   place-in κ h k today o t = t
 
-  test-in : (κ : List ℕ) → Choice κ → (c : Constraint) → ((v : ℕ) → List·Memᴰ v (varsTest c) → List·Memᴰ v (occurring D)) → T (comparable cs κ c) → T (comparable cs (trimmed κ) c)
+  test-in : (κ : List ℕ) → Choice κ → (c : Constraint) → ((v : ℕ) → List·Memᴰ v (varsTest c) → List·Memᴰ v (occurring D)) → T (comparable cs κ c)
+      → T (comparable cs (trimmed κ) c)
   test-in κ h c o t =
       let l = under-same κ h (c .left) (λ v m. o v (Memᴰ·append-left _ m)) in
       let r = under-same κ h (c .right) (λ v m. o v (Memᴰ·append-right (varsOf (c .left)) m)) in
@@ -81,11 +88,21 @@ module _ (cs : List Constant) (D : Demands) where
   trimmed-meets : (κ : List ℕ) → Choice κ → T (meets cs D κ) → T (meets cs D (trimmed κ))
   trimmed-meets κ h t =
       let m = and-of (all (inPlace cs κ) (D .places)) (all (comparable cs κ) (D .tests)) t in
-      and-in (all (inPlace cs (trimmed κ)) (D .places)) (all (comparable cs (trimmed κ)) (D .tests))
-      (all-in (inPlace cs (trimmed κ)) (D .places) (λ p k. place-in κ h (p .0) (p .1) (λ v n. Memᴰ·append-left _ (each-in (λ (p : ℕ × Expr). varsOf (p .1)) k n)) (all-of (inPlace cs κ) (m .0) k)))
-      (all-in (comparable cs (trimmed κ)) (D .tests) (λ c k. test-in κ h c (λ v n. Memᴰ·append-right (each (D .places) (λ (p : ℕ × Expr). varsOf (p .1))) (each-in varsTest k n)) (all-of (comparable cs κ) (m .1) k)))
+      and-in (all (inPlace cs (trimmed κ)) (D .places)) (all (comparable cs (trimmed κ)) (D .tests)) (placed (m .0)) (tested (m .1))
+    where
+      varsAt : ℕ × Expr → List ℕ
+      varsAt p = varsOf (p .1)
 
-  pub fitting↔ : T (fitting cs D) ↔ ((κ : List ℕ) × (length κ ≡ length variables) × ((v : ℕ) → v < length variables → List·Memᴰ (getD κ v 0) kinds) × T (meets cs D κ))
+      placed : T (all (inPlace cs κ) (D .places)) → T (all (inPlace cs (trimmed κ)) (D .places))
+      placed t = all-in (inPlace cs (trimmed κ)) (D .places)
+          (λ p k. place-in κ h (p .0) (p .1) (λ v n. Memᴰ·append-left _ (each-in varsAt k n)) (all-of (inPlace cs κ) t k))
+
+      tested : T (all (comparable cs κ) (D .tests)) → T (all (comparable cs (trimmed κ)) (D .tests))
+      tested t = all-in (comparable cs (trimmed κ)) (D .tests)
+          (λ c k. test-in κ h c (λ v n. Memᴰ·append-right (each (D .places) varsAt) (each-in varsTest k n)) (all-of (comparable cs κ) t k))
+
+  pub fitting↔ : T (fitting cs D)
+      ↔ ((κ : List ℕ) × (length κ ≡ length variables) × ((v : ℕ) → v < length variables → List·Memᴰ (getD κ v 0) kinds) × T (meets cs D κ))
   fitting↔ = (
     λ t. let r = any-of (meets cs D) (choicesOf D) t in let h = choice-of (r .0) (r .1) in (r .0, h .0, h .1, r .2),
     λ h. any-in (meets cs D) (trimmed-in (h .0) (h .1, h .2)) (trimmed-meets (h .0) (h .1, h .2) (h .3)),
@@ -93,7 +110,7 @@ module _ (cs : List Constant) (D : Demands) where
 
 -- ---- a variable's kind
 
-isVar-of : (v : ℕ) (e : Expr) → T (isVar v e) → e ≡ var v
+pub isVar-of : (v : ℕ) (e : Expr) → T (isVar v e) → e ≡ var v
 isVar-of v (con c) t = absurd t
 isVar-of v (var w) t = ap var (sym (eqb→eq v w t))
 isVar-of v today t = absurd t
@@ -108,6 +125,7 @@ one-kind cs κ (p ∷ ps) t v h = go (isVar v (p .1)) refl (one-kind cs κ ps (k
     here : (e : Expr) → e ≡ var v → T (inPlace cs κ (p .0, e)) → getD κ v 0 ≡ p .0
     here e q u = eqb→eq (getD κ v 0) (p .0) (subst (λ (e : Expr). T (inPlace cs κ (p .0, e))) q u)
 
-    go : (b : Bool) → isVar v (p .1) ≡ b → ((¬ (kindOf ps v ≡ 0)) → getD κ v 0 ≡ kindOf ps v) → (¬ (cond b (p .0) (kindOf ps v) ≡ 0)) → getD κ v 0 ≡ cond b (p .0) (kindOf ps v)
+    go : (b : Bool) → isVar v (p .1) ≡ b → ((¬ (kindOf ps v ≡ 0)) → getD κ v 0 ≡ kindOf ps v) → (¬ (cond b (p .0) (kindOf ps v) ≡ 0))
+        → getD κ v 0 ≡ cond b (p .0) (kindOf ps v)
     go true e ih h = here (p .1) (isVar-of v (p .1) (subst T (sym e) tt)) (k .0)
     go false e ih h = ih h

@@ -1,4 +1,6 @@
 pub mod Cases
+pub mod Tests
+pub mod ByteFacts
 pub mod ListFacts
 pub mod Order
 pub mod ClosureFacts
@@ -30,4 +32,5 @@ pub mod Grounded
 pub mod FreeVariables
 pub mod Theorems
 pub mod CalendarFacts
+pub mod DaysOfYear
 pub mod Years

@@ -1,7 +1,8 @@
 -- What is in a computed list, and what a computed test says.
 use mathlib.Core.Path.{_≡_, refl, sym, ap, ap₂, subst, _∙_}
 use mathlib.Core.Logic.{_↔_, _⊎_, inl, inr, ⊎-elim}
-use mathlib.Core.List.{List, [], _∷_, _++_, map, List·Memᴰ, List·Memᴰ·head, List·Memᴰ·tail, List·Memᴰ·not-nil, List·Memᴰ·cases-cons, List·Memᴰ·append-cases, List·Memᴰ·eq-of-singleton, Memᴰ·append-left, Memᴰ·append-right, Memᴰ·cast, Memᴰ·map}
+use mathlib.Core.List.{List, [], _∷_, _++_, map, List·Memᴰ, List·Memᴰ·head, List·Memᴰ·tail, List·Memᴰ·not-nil, List·Memᴰ·cases-cons, List·Memᴰ·append-cases}
+use mathlib.Core.List.{List·Memᴰ·eq-of-singleton, Memᴰ·append-left, Memᴰ·append-right, Memᴰ·cast, Memᴰ·map}
 use mathlib.Core.Bool.{Bool, true, false, _&&_, _||_, not}
 use Prim.Native.Nat.{ℕ, zero, suc, _≤_, zero-le, suc-le-suc}
 use lib.ListN.{length}
@@ -85,6 +86,11 @@ module _ {A B : Type 0} where
   pub each-in : (f : A → List B) {x : A} {y : B} {xs : List A} → List·Memᴰ x xs → List·Memᴰ y (f x) → List·Memᴰ y (each xs f)
   each-in f {y = y} (List·Memᴰ·head e) m = Memᴰ·append-left _ (subst (λ z. List·Memᴰ y (f z)) e m)
   each-in f (List·Memᴰ·tail {x = x} n) m = Memᴰ·append-right (f x) (each-in f n m)
+
+-- tests that agree keep the same
+pub keep-same : {A : Type 0} (p q : A → Bool) (xs : List A) → ((x : A) → p x ≡ q x) → keep p xs ≡ keep q xs
+keep-same p q [] h = refl
+keep-same p q (x ∷ xs) h = ap₂ (λ b l. only b x ++ l) (h x) (keep-same p q xs h)
 
 pub sameList-of : (xs ys : List ℕ) → T (sameList xs ys) → xs ≡ ys
 sameList-of [] [] t = refl

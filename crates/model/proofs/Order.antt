@@ -10,11 +10,15 @@ use lib.Dec.{T, T-not, eqb, eqb→eq, eqb-refl, ltb, ltb→lt, lt→ltb, nltb→
 use Rattle.model.specs.Lists.{before, insert, sorted}
 use Rattle.model.specs.Meant.{Distinct, Ascends}
 use Rattle.model.proofs.ListFacts.{and-of, and-in, or-of, or-left, or-right, eqb-in}
+use Rattle.model.proofs.Tests.{decT}
 
 -- what the test says
 pub before-cons : (x y : ℕ) (xs ys : List ℕ) → T (before (x ∷ xs) (y ∷ ys)) → (x < y) ⊎ ((x ≡ y) × T (before xs ys))
 before-cons x y xs ys t =
-    ⊎-elim (λ h. inl (ltb→lt x y h)) (λ h. let r = and-of (eqb x y) (before xs ys) h in inr (eqb→eq x y (r .0), r .1)) (or-of (ltb x y) (eqb x y && before xs ys) t)
+    ⊎-elim
+    (λ h. inl (ltb→lt x y h))
+    (λ h. let r = and-of (eqb x y) (before xs ys) h in inr (eqb→eq x y (r .0), r .1))
+    (or-of (ltb x y) (eqb x y && before xs ys) t)
 
 pub before-lt : (x y : ℕ) (xs ys : List ℕ) → x < y → T (before (x ∷ xs) (y ∷ ys))
 before-lt x y xs ys h = or-left (ltb x y) _ (lt→ltb x y h)
@@ -34,7 +38,10 @@ before-trans (x ∷ xs) [] zs s t = absurd s
 before-trans (x ∷ xs) (y ∷ ys) [] s t = absurd t
 before-trans (x ∷ xs) (y ∷ ys) (z ∷ zs) s t =
     ⊎-elim
-    (λ (h : x < y). ⊎-elim (λ (k : y < z). before-lt x z xs zs (omega arith)) (λ (k : (y ≡ z) × T (before ys zs)). before-lt x z xs zs (let e : y ≡ z = k .0 in omega arith)) (before-cons y z ys zs t))
+    (λ (h : x < y). ⊎-elim
+    (λ (k : y < z). before-lt x z xs zs (omega arith))
+    (λ (k : (y ≡ z) × T (before ys zs)). before-lt x z xs zs (let e : y ≡ z = k .0 in omega arith))
+    (before-cons y z ys zs t))
     (λ (h : (x ≡ y) × T (before xs ys)). ⊎-elim
     (λ (k : y < z). before-lt x z xs zs (let e : x ≡ y = h .0 in omega arith))
     (λ (k : (y ≡ z) × T (before ys zs)). before-eq x z xs zs (h .0 ∙ k .0) (before-trans xs ys zs (h .1) (k .1)))
@@ -48,10 +55,6 @@ compared [] (y ∷ ys) = inl tt
 compared (x ∷ xs) [] = inr (inl tt)
 compared (x ∷ xs) (y ∷ ys) = go (decT (ltb x y)) (decT (ltb y x)) (compared xs ys)
   where
-    decT : (b : Bool) → T b ⊎ T (not b)
-    decT true = inl tt
-    decT false = inr tt
-
     go : T (ltb x y) ⊎ T (not (ltb x y)) → T (ltb y x) ⊎ T (not (ltb y x)) → T (before xs ys) ⊎ (T (before ys xs) ⊎ (xs ≡ ys))
         → T (before (x ∷ xs) (y ∷ ys)) ⊎ (T (before (y ∷ ys) (x ∷ xs)) ⊎ (x ∷ xs ≡ y ∷ ys))
     go (inl h) k r = inl (before-lt x y xs ys (ltb→lt x y h))
@@ -73,13 +76,16 @@ module _ {E : Type 0} (key : E → List ℕ) where
   tails x y z l m e a h p =
       ⊎-elim (λ q. absurd (before-irrefl (key z) (subst (λ (w : E). T (before (key w) (key z))) (e ∙ sym q) (a .0 z h)))) (λ k. k) (List·Memᴰ·cases-cons p)
 
-  pub ascends-unique : (l m : List E) → Ascends key l → Ascends key m → ((z : E) → List·Memᴰ z l → List·Memᴰ z m) → ((z : E) → List·Memᴰ z m → List·Memᴰ z l) → l ≡ m
+  pub ascends-unique : (l m : List E) → Ascends key l → Ascends key m → ((z : E) → List·Memᴰ z l → List·Memᴰ z m)
+      → ((z : E) → List·Memᴰ z m → List·Memᴰ z l) → l ≡ m
   ascends-unique [] [] a b f g = refl
   ascends-unique [] (y ∷ m) a b f g = absurd (List·Memᴰ·not-nil (g y (List·Memᴰ·head refl)))
   ascends-unique (x ∷ l) [] a b f g = absurd (List·Memᴰ·not-nil (f x (List·Memᴰ·head refl)))
   ascends-unique (x ∷ l) (y ∷ m) a b f g =
       let e = heads x y l m a b (f x (List·Memᴰ·head refl)) (g y (List·Memᴰ·head refl)) in
-      ap₂ _∷_ e (ascends-unique l m (a .1) (b .1) (λ z h. tails x y z l m e a h (f z (List·Memᴰ·tail h))) (λ z h. tails y x z m l (sym e) b h (g z (List·Memᴰ·tail h))))
+      ap₂ _∷_ e (ascends-unique l m (a .1) (b .1)
+      (λ z h. tails x y z l m e a h (f z (List·Memᴰ·tail h)))
+      (λ z h. tails y x z m l (sym e) b h (g z (List·Memᴰ·tail h))))
 
   -- ---- sorting keeps what is there
 
@@ -114,7 +120,8 @@ module _ {E : Type 0} (key : E → List ℕ) where
 
   pub sorted-in : (z : E) (l : List E) → List·Memᴰ z l → List·Memᴰ z (sorted key l)
   sorted-in z [] m = m
-  sorted-in z (x ∷ l) m = ⊎-elim (λ e. Memᴰ·cast e (insert-here x (sorted key l))) (λ h. insert-in x z (sorted key l) (sorted-in z l h)) (List·Memᴰ·cases-cons m)
+  sorted-in z (x ∷ l) m =
+      ⊎-elim (λ e. Memᴰ·cast e (insert-here x (sorted key l))) (λ h. insert-in x z (sorted key l) (sorted-in z l h)) (List·Memᴰ·cases-cons m)
 
   -- ---- and puts it in order
 
@@ -124,10 +131,16 @@ module _ {E : Type 0} (key : E → List ℕ) where
     where
       go : (b : Bool) → before (key x) (key y) ≡ b → Ascends key (insert key x l) → Ascends key (cond b (x ∷ y ∷ l) (y ∷ insert key x l))
       go true e r =
-          let t : T (before (key x) (key y)) = subst T (sym e) tt in
-          ((λ z m. ⊎-elim (λ q. subst (λ (w : E). T (before (key x) (key w))) (sym q) t) (λ k. before-trans (key x) (key y) (key z) t (a .0 z k)) (List·Memᴰ·cases-cons m)), a)
+          let t : T (before (key x) (key y)) = subst T (sym e) tt in (
+            (λ z m. ⊎-elim
+                (λ q. subst (λ (w : E). T (before (key x) (key w))) (sym q) t)
+                (λ k. before-trans (key x) (key y) (key z) t (a .0 z k))
+                (List·Memᴰ·cases-cons m)),
+            a,
+          )
       go false e r =
-          let t : T (before (key y) (key x)) = ⊎-elim (λ s. absurd (subst T e s)) (λ s. ⊎-elim (λ u. u) (λ q. absurd (h y (List·Memᴰ·head refl) q)) s) (compared (key x) (key y)) in
+          let t : T (before (key y) (key x)) =
+          ⊎-elim (λ s. absurd (subst T e s)) (λ s. ⊎-elim (λ u. u) (λ q. absurd (h y (List·Memᴰ·head refl) q)) s) (compared (key x) (key y)) in
           ((λ z m. ⊎-elim (λ q. subst (λ (w : E). T (before (key y) (key w))) (sym q) t) (a .0 z) (insert-of x z l m)), r)
 
   pub sorted-ascends : (l : List E) → Distinct l → ((x y : E) → List·Memᴰ x l → List·Memᴰ y l → key x ≡ key y → x ≡ y) → Ascends key (sorted key l)

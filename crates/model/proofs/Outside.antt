@@ -1,19 +1,19 @@
 -- Assertions whose issuers are outside the reach change neither the reach nor the assertions that count.
-use mathlib.Core.Path.{_≡_, refl, sym, ap, ap₂, subst, _∙_}
+use mathlib.Core.Path.{_≡_, refl, sym, ap, subst, _∙_}
 use mathlib.Core.Logic.{_↔_, _⊎_, inl, inr, ⊎-elim}
-use mathlib.Core.List.{List, [], _∷_, _++_, List·Memᴰ, List·Memᴰ·head, List·Memᴰ·tail, List·Memᴰ·not-nil, List·Memᴰ·cases-cons}
-use mathlib.Core.Bool.{Bool, true, false}
+use mathlib.Core.List.{List, [], _++_, List·Memᴰ, List·Memᴰ·head, List·Memᴰ·tail, List·Memᴰ·not-nil, List·Memᴰ·cases-cons}
+use mathlib.Core.Bool.{Bool, false}
 use Prim.Native.Nat.{ℕ}
-use lib.Dec.{T}
 use Rattle.model.specs.Lists.{keep, only}
 use Rattle.model.specs.Syntax.{Assertion, World}
 use Rattle.model.specs.Closure.{by}
 use Rattle.model.specs.Reach.{Joins, asks, names, Reach}
 use Rattle.model.specs.Reached.{issuedIn, reach, counting}
 use Rattle.model.specs.Theorems.{Adds, done, keeps, adds}
-use Rattle.model.proofs.ListFacts.{member-of, member-in}
+use Rattle.model.proofs.ListFacts.{member-of, member-in, keep-same}
 use Rattle.model.proofs.ClosureFacts.{derives-more}
 use Rattle.model.proofs.ReachFacts.{reach-of, reach-in}
+use Rattle.model.proofs.Tests.{T-iff}
 
 module _ {Q : Assertion → Type 0} where
   pub adds-in : {a : Assertion} {𝒜 ℬ : List Assertion} → Adds Q 𝒜 ℬ → List·Memᴰ a 𝒜 → List·Memᴰ a ℬ
@@ -26,11 +26,11 @@ module _ {Q : Assertion → Type 0} where
   adds-of (keeps b s) m = ⊎-elim (λ e. inl (List·Memᴰ·head e)) (λ n. ⊎-elim (λ k. inl (List·Memᴰ·tail k)) inr (adds-of s n)) (List·Memᴰ·cases-cons m)
   adds-of (adds q s) m = ⊎-elim (λ e. inr (subst Q (sym e) q)) (λ n. adds-of s n) (List·Memᴰ·cases-cons m)
 
-pub T-iff : (a b : Bool) → (T a → T b) → (T b → T a) → a ≡ b
-T-iff true true f g = refl
-T-iff true false f g = absurd (f tt)
-T-iff false true f g = absurd (g tt)
-T-iff false false f g = refl
+-- whoever joins still joins with more assertions
+pub joins-more : (W : World) (asked : List ℕ) {Q : Assertion → Type 0} {𝒜 ℬ : List Assertion} → Adds Q 𝒜 ℬ
+    → (ps : List ℕ) (p : ℕ) → Joins W 𝒜 asked ps p → Joins W ℬ asked ps p
+joins-more W asked s ps p (asks m) = asks m
+joins-more W asked s ps p (names m n) = names (adds-in s m) n
 
 module _ (W : World) (asked : List ℕ) (𝒜 ℬ : List Assertion) where
   abbrev pub Outside : Assertion → Type 0
@@ -46,26 +46,26 @@ module _ (W : World) (asked : List ℕ) (𝒜 ℬ : List Assertion) where
         (λ (o : Outside a). absurd (o i))
         (adds-of s m)
 
-    joins-more : (ps : List ℕ) (p : ℕ) → Joins W 𝒜 asked ps p → Joins W ℬ asked ps p
-    joins-more ps p (asks m) = asks m
-    joins-more ps p (names m n) = names (adds-in s m) n
-
     -- the reach is the same
     pub reach-same : (p : ℕ) → Reach W ℬ asked p ↔ Reach W 𝒜 asked p
-    reach-same p = (reach-back p, derives-more joins-more)
+    reach-same p = (reach-back p, derives-more (joins-more W asked s))
 
     pub issued-same : (a : Assertion) → issuedIn (reach W ℬ asked) a ≡ issuedIn (reach W 𝒜 asked) a
-    issued-same a =
-        T-iff (issuedIn (reach W ℬ asked) a) (issuedIn (reach W 𝒜 asked) a)
-        (λ t. member-in (reach-in W 𝒜 asked (a .issuer) (reach-same (a .issuer) .0 (reach-of W ℬ asked (a .issuer) (member-of (a .issuer) (reach W ℬ asked) t)))))
-        (λ t. member-in (reach-in W ℬ asked (a .issuer) (reach-same (a .issuer) .1 (reach-of W 𝒜 asked (a .issuer) (member-of (a .issuer) (reach W 𝒜 asked) t)))))
+    issued-same a = T-iff (issuedIn (reach W ℬ asked) a) (issuedIn (reach W 𝒜 asked) a) (λ t. member-in (back (member-of p (reach W ℬ asked) t)))
+        (λ t. member-in (forth (member-of p (reach W 𝒜 asked) t)))
+      where
+        p : ℕ
+        p = a .issuer
+
+        back : List·Memᴰ p (reach W ℬ asked) → List·Memᴰ p (reach W 𝒜 asked)
+        back m = reach-in W 𝒜 asked p (reach-same p .0 (reach-of W ℬ asked p m))
+
+        forth : List·Memᴰ p (reach W 𝒜 asked) → List·Memᴰ p (reach W ℬ asked)
+        forth m = reach-in W ℬ asked p (reach-same p .1 (reach-of W 𝒜 asked p m))
 
   issued-not : (a : Assertion) → Outside a → issuedIn (reach W 𝒜 asked) a ≡ false
-  issued-not a o = T-iff (issuedIn (reach W 𝒜 asked) a) false (λ t. o (reach-of W 𝒜 asked (a .issuer) (member-of (a .issuer) (reach W 𝒜 asked) t))) (λ t. absurd t)
-
-keep-same : {A : Type 0} (p q : A → Bool) (xs : List A) → ((x : A) → p x ≡ q x) → keep p xs ≡ keep q xs
-keep-same p q [] h = refl
-keep-same p q (x ∷ xs) h = ap₂ (λ b l. only b x ++ l) (h x) (keep-same p q xs h)
+  issued-not a o =
+      T-iff (issuedIn (reach W 𝒜 asked) a) false (λ t. o (reach-of W 𝒜 asked (a .issuer) (member-of (a .issuer) (reach W 𝒜 asked) t))) (λ t. absurd t)
 
 keep-adds : (p : Assertion → Bool) {Q : Assertion → Type 0} → ((a : Assertion) → Q a → p a ≡ false) → {𝒜 ℬ : List Assertion} → Adds Q 𝒜 ℬ → keep p ℬ ≡ keep p 𝒜
 keep-adds p o done = refl

@@ -3,10 +3,9 @@ use mathlib.Core.Path.{_≡_, refl, sym, subst, _∙_}
 use mathlib.Core.Logic.{_↔_}
 use mathlib.Core.List.{List, [], _∷_, _++_, map, List·Memᴰ, List·Memᴰ·head, List·Memᴰ·tail}
 use mathlib.Core.Bool.{Bool, true, false, _&&_}
-use Prim.Native.Nat.{ℕ, zero, suc, _+_, _<_, _≤_}
-use native.Mathlib.Decide.{decLt}
+use Prim.Native.Nat.{ℕ, zero, suc, _+_, _≤_}
 use native.Mathlib.Omega.{arith}
-use lib.ListN.{length, getD, List·getD-eq-default}
+use lib.ListN.{length, getD}
 use lib.Dec.{T, leb, eqb→eq, leb→le}
 use Rattle.model.specs.Limits.{principal, quantity}
 use Rattle.model.specs.Lists.{all, each}
@@ -30,6 +29,8 @@ use Rattle.model.proofs.ReadFacts.{never, choose-yes, choose-no, andThe
 use Rattle.model.proofs.CheckedNodes.{Some, Sound, SoundAll, node-checked}
 use Rattle.model.proofs.RequestReader.{node-is}
 use Rattle.model.proofs.SafetyRules.{Low, low-append, Proper, ProperAll, ProperAny, safe-request}
+use Rattle.model.proofs.Tests.{both-of}
+use Rattle.model.proofs.ByteFacts.{below-length}
 
 -- ---- a variable in a place has a kind, so it is of the eight
 
@@ -45,16 +46,10 @@ module _ (cs : List Constant) (κ : List ℕ) (l : length κ ≡ 8) where
   low-place : (k : ℕ) (e : Expr) → T (isKind k) → T (inPlace cs κ (k, e)) → Low (varsOf e)
   low-place k (con c) i t = tt
   low-place k today i t = tt
-  low-place k (var v) i t = (go (decLt v 8), tt)
-    where
-      go : Dec (v < 8) → v < 8
-      go (yes h) = h
-      go (no h) = absurd (
-          let z : getD κ v 0 ≡ k = eqb→eq (getD κ v 0) k t in
-          let w : getD κ v 0 ≡ 0 = List·getD-eq-default κ 0 (let q : 8 ≤ v = omega arith in rw l q) in
-          let o : 1 ≤ k = leb→le 1 k (and-of (leb 1 k) (leb k quantity) i .0) in
-          omega arith
-          )
+  low-place k (var v) i t =
+      let z : getD κ v 0 ≡ k = eqb→eq (getD κ v 0) k t in
+      let o : 1 ≤ k = leb→le 1 k (and-of (leb 1 k) (leb k quantity) i .0) in
+      (below-length κ 8 l v (λ w. omega arith), tt)
 
   low-pair : (ks : List ℕ) (es : List Expr) → length es ≡ length ks → T (all isKind ks) → T (all (inPlace cs κ) (pair ks es)) → Low (each es varsOf)
   low-pair ks [] h i t = tt
@@ -156,11 +151,6 @@ module _ (cs : List Constant) (vs : List Verb) (s : List ℕ) where
 
 -- ---- the verbs of an accepted policy have kinds
 
-both-of : (a b : Bool) → T (both a b) → T a × T b
-unfolding both choose
-both-of true b t = (tt, t)
-both-of false b t = absurd t
-
 verb-kinded : (s : List ℕ) (before : List Verb) (at : ℕ) (v : Verb) (e : ℕ) → verbItem s before at ≡ got v e → T (all isKind (v .kinds))
 unfolding verbItem verbForm signatureForm verbAt
 verb-kinded s before at v e r =
@@ -175,7 +165,7 @@ kinds-at [] h v = tt
 kinds-at (x ∷ vs) h zero = h x (List·Memᴰ·head refl)
 kinds-at (x ∷ vs) h (suc v) = kinds-at vs (λ w m. h w (List·Memᴰ·tail m)) v
 
-pub accepted-kinded : (s : List ℕ) (A : Accepted) (e : ℕ) → readPolicy s ≡ got A e → (v : ℕ) → T (all isKind (paramKinds (policyOf A .verbs) v))
+accepted-kinded : (s : List ℕ) (A : Accepted) (e : ℕ) → readPolicy s ≡ got A e → (v : ℕ) → T (all isKind (paramKinds (policyOf A .verbs) v))
 unfolding computedPolicy constantsFrom verbsFrom assertionsFrom
 accepted-kinded s A e r zero = tt
 accepted-kinded s A e r (suc v) =
@@ -186,8 +176,10 @@ accepted-kinded s A e r (suc v) =
     kinds-at (policyOf A .verbs) (subst (λ (B : Accepted). (x : Verb) → List·Memᴰ x (policyOf B .verbs) → T (all isKind (x .kinds))) q
     (list-each (verbItem s) (λ (x : Verb). T (all isKind (x .kinds))) (verb-kinded s) s 0 _ (c .1) (d .0) (d .1) (d .2))) v
 
+pub policy-kinded : (policy : List ℕ) (P : Policy) → ReadAs policy P → (v : ℕ) → T (all isKind (paramKinds (P .verbs) v))
+policy-kinded policy P h =
+    subst (λ (Q : Policy). (v : ℕ) → T (all isKind (paramKinds (Q .verbs) v))) (h .3) (accepted-kinded policy (h .0) (h .1) (h .2))
+
 pub safely-asked : (policy request : List ℕ) (P : Policy) → ReadAs policy P → (n : Node) (e : ℕ)
     → node request (P .constants) (P .verbs) 8 noDemands 0 (length request) 9 ≡ got n e → T (safeRequest n) ↔ SafeRequest n
-safely-asked policy request P h n e r =
-    safe-request n (asked-proper (P .constants) (P .verbs) request (subst (λ (Q : Policy). (v : ℕ) → T (all isKind (paramKinds (Q .verbs) v))) (h .3)
-    (accepted-kinded policy (h .0) (h .1) (h .2))) n e r)
+safely-asked policy request P h n e r = safe-request n (asked-proper (P .constants) (P .verbs) request (policy-kinded policy P h) n e r)

@@ -3,15 +3,14 @@ use mathlib.Core.Path.{_≡_, refl, sym, ap, subst, _∙_}
 use mathlib.Core.Logic.{_⊎_, ⊎-elim}
 use mathlib.Core.List.{List, [], _∷_, _++_, List·Memᴰ, List·Memᴰ·not-nil, List·Memᴰ·eq-of-singleton, List·Memᴰ·append-cases, map-append}
 use mathlib.Core.Bool.{Bool, true, false, not}
-use Prim.Native.Nat.{ℕ, zero, suc, _+_, _<_, _≤_}
-use native.Mathlib.Decide.{decLt}
+use Prim.Native.Nat.{ℕ, zero, suc, _+_, _≤_}
 use native.Mathlib.Omega.{arith}
-use lib.ListN.{length, getD, length-map, length-append, List·getD-eq-default}
+use lib.ListN.{length, getD, length-map, length-append}
 use lib.Dec.{T, eqb, ltb, eqb→eq}
 use borrow.Author.Tests.{ltb-false}
 use Rattle.model.specs.Limits.{principal, maxConstants, headerBytes}
 use Rattle.model.specs.Lists.{all}
-use Rattle.model.specs.Syntax.{Expr, con, var, today, Fact, flat, canSay, subject, Assertion, Constant, Verb}
+use Rattle.model.specs.Syntax.{Expr, con, var, today, Fact, flat, canSay, subject, Assertion, Constant, Verb, Policy}
 use Rattle.model.specs.Kinds.{Demands, kindAt, places, demandsOf, inPlace, comparable, meets, kindsFor, choicesOf, fitting, fitsAssertion}
 use Rattle.model.specs.Kinds.{variables}
 use Rattle.model.specs.Safety.{safeAssertion}
@@ -25,6 +24,8 @@ use Rattle.model.specs.Records.{Arity}
 use Rattle.model.proofs.ListFacts.{and-of, any-of}
 use Rattle.model.proofs.BindingFacts.{picks-of}
 use Rattle.model.proofs.Inside.{Placed}
+use Rattle.model.proofs.ByteFacts.{below-length}
+use Rattle.model.specs.Theorems.{ReadAs}
 
 -- ---- what must have been read before
 
@@ -158,6 +159,10 @@ accepted-fine s A e r =
     (list-each (assertionItem (contents (c .0)) (contents (v .0)) s) (Fine (contents (c .0)) (contents (v .0)))
     (item-fine (contents (c .0)) (contents (v .0)) s) s 0 _ (v .1) (a .0) (a .1) (a .2))
 
+pub policy-fine : (policy : List ℕ) (P : Policy) → ReadAs policy P → (a : Assertion) → List·Memᴰ a (P .assertions) → Fine (P .constants) (P .verbs) a
+policy-fine policy P h = subst (λ (P : Policy). (a : Assertion) → List·Memᴰ a (P .assertions) → Fine (P .constants) (P .verbs) a) (h .3)
+    (accepted-fine policy (h .0) (h .1) (h .2))
+
 -- "Constants (1 to 255 ..)"
 pub accepted-count : (s : List ℕ) (A : Accepted) (e : ℕ) → readPolicy s ≡ got A e → length (policyOf A .constants) ≤ 255
 unfolding computedPolicy constantsFrom verbsFrom assertionsFrom
@@ -177,12 +182,7 @@ choice-length D κ m = picks-of (kindsFor D) 0 variables κ m .0
 
 placed : (cs : List Constant) (κ : List ℕ) (e : Expr) → length κ ≡ 8 → T (inPlace cs κ (principal, e)) → Placed e
 placed cs κ (con c) l t = tt
-placed cs κ (var v) l t = go (decLt v 8)
-  where
-    go : Dec (v < 8) → v < 8
-    go (yes h) = h
-    go (no h) = absurd (let z : getD κ v 0 ≡ 1 = eqb→eq (getD κ v 0) 1 t in
-        let w : getD κ v 0 ≡ 0 = List·getD-eq-default κ 0 (let q : 8 ≤ v = omega arith in rw l q) in omega arith)
+placed cs κ (var v) l t = let z : getD κ v 0 ≡ 1 = eqb→eq (getD κ v 0) 1 t in below-length κ 8 l v (λ w. omega arith)
 placed cs κ today l t = absurd t
 
 subject-first : (cs : List Constant) (vs : List Verb) (κ : List ℕ) (f : Fact Expr) (ps : List (ℕ × Expr)) → T (all (inPlace cs κ) (places vs f ++ ps))

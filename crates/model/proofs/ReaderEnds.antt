@@ -18,13 +18,13 @@ unfolding choose
 past true x y q n e = absurd (n q e)
 past false x y q n e = (refl, e)
 
-no-broken : (p : ℕ) → broken ≡ ends p → ⊥
+pub no-broken : (p : ℕ) → broken ≡ ends p → ⊥
 no-broken p e = let z : _≡_ {A = ℕ} 0 1 = cc in omega arith
 
-no-noVerb : (p : ℕ) → noVerb ≡ ends p → ⊥
+pub no-noVerb : (p : ℕ) → noVerb ≡ ends p → ⊥
 no-noVerb p e = let z : _≡_ {A = ℕ} 0 1 = cc in omega arith
 
-then-ends : (φ : forms.Form) (f : ℕ → forms.Form) (q : ℕ) → thenForm φ f ≡ ends q → (p : ℕ) × (φ ≡ ends p) × (f p ≡ ends q)
+pub then-ends : (φ : forms.Form) (f : ℕ → forms.Form) (q : ℕ) → thenForm φ f ≡ ends q → (p : ℕ) × (φ ≡ ends p) × (f p ≡ ends q)
 unfolding thenForm
 then-ends (ends p) f q e = (p, refl, e)
 then-ends broken f q e = absurd (no-broken q e)

@@ -14,6 +14,7 @@ use Rattle.model.specs.Requests.{free}
 use Rattle.model.specs.Safety.{provided, onward, known, knownAll, knownAny, binders, isSafe, safeRequest}
 use Rattle.model.specs.Safe.{Safe, SafeAll, SafeAny, flatSays, nestedSays, compares, allParts, anyPart, negates, binds, noMore, thenAll}
 use Rattle.model.specs.Safe.{lastPart, orAny, SafeRequest}
+use Rattle.model.proofs.ListFacts.{and-of, and-in}
 
 -- ---- variables of the eight
 
@@ -229,14 +230,6 @@ mutual
       (a .2)
 
 -- ---- requests
-
-and-of : (a b : Bool) → T (a && b) → T a × T b
-and-of true b t = (tt, t)
-and-of false b t = absurd t
-
-and-in : (a b : Bool) → T a → T b → T (a && b)
-and-in true b s t = t
-and-in false b s t = absurd s
 
 pub isSafe-of : (o : Set) (vs : List ℕ) → T (isSafe o vs) → (O : List ℕ) × (o ≡ some O) × T (among vs O)
 isSafe-of none vs t = absurd t

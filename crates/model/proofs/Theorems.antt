@@ -33,7 +33,7 @@ use Rattle.model.proofs.OutcomeFacts.{clash, meant-unique, meant, same-
 use Rattle.model.proofs.Outside.{counting-same}
 use Rattle.model.proofs.Inside.{inside}
 use Rattle.model.proofs.Growth.{holds-more, rule-grows}
-use Rattle.model.proofs.ReadFacts.{Fine, accepted-fine, accepted-count, subject-placed}
+use Rattle.model.proofs.ReadFacts.{accepted-count, subject-placed, policy-fine}
 use Rattle.model.proofs.KindFacts.{fitting↔, one-kind}
 use Rattle.model.proofs.DecisionFacts.{reports, rounds-facts, answer-at, getD-in, in-getD}
 use Rattle.model.proofs.ProperRequests.{safely-asked}
@@ -59,11 +59,6 @@ pub roundsAtMostFacts : Q.RoundsAtMostFacts
 roundsAtMostFacts = rounds-facts
 
 -- ---- the outcome
-
--- the assertions of an accepted policy, and those of them that count
-policy-fine : (policy : List ℕ) (P : Policy) → ReadAs policy P → (a : Assertion) → List·Memᴰ a (P .assertions) → Fine (P .constants) (P .verbs) a
-policy-fine policy P h = subst (λ (P : Policy). (a : Assertion) → List·Memᴰ a (P .assertions) → Fine (P .constants) (P .verbs) a) (h .3)
-    (accepted-fine policy (h .0) (h .1) (h .2))
 
 module _ (policy request : List ℕ) (P : Policy) (q : Request) (h : Inputs policy request P q) where
   counting-arity : (a : Assertion) → List·Memᴰ a (countingIn P q) → Arity (P .verbs) (a .head)

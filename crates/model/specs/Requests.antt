@@ -7,7 +7,8 @@ use lib.ListN.{set}
 use lib.Dec.{T}
 use Rattle.model.specs.Limits.{unlimited}
 use Rattle.model.specs.Lists.{member, without}
-use Rattle.model.specs.Syntax.{Expr, Fact, mapFact, World, Said, said, Node, Nodes, says, test, allOf, anyOf, non, exists, end, more, varsOf, varsIn, varsTest}
+use Rattle.model.specs.Syntax.{Expr, Fact, mapFact, World, Said, said, Node, Nodes, says, test, allOf, anyOf, non, exists, end, more, varsOf, varsIn}
+use Rattle.model.specs.Syntax.{varsTest}
 use Rattle.model.specs.Kinds.{demandsIn, kindOf, variables}
 use Rattle.model.specs.Values.{bound, passes, ofKind, bindings}
 use Rattle.model.specs.Reach.{joining}

@@ -37,7 +37,8 @@ pub record YearLength : Type 0 where
   pub either : (n : ℕ) → (yearAfter n ≡ n + 365) ⊎ (yearAfter n ≡ n + 366)
   pub longer : (n : ℕ) → (yearAfter n ≡ n + 366) ↔ LeapBetween n (yearAfter n)
 
--- "Right 0 (1 January 2000) admits left 366"; "differences of 0 and below still hold"; one year after the last day lies beyond it; a right in 2099 admits every day.
+-- "Right 0 (1 January 2000) admits left 366"; "differences of 0 and below still hold"; one year after the last day lies beyond it; a right in 2099 admits
+-- every day.
 pub record PermitYear : Type 0 where
   pub first : withinYear 366 0 ≡ true
   pub past : withinYear 367 0 ≡ false

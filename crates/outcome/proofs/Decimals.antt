@@ -55,7 +55,8 @@ few (suc k) (suc m) n h = go (decLt n 10) (λ i. few k m (n / 10) (let e : 10 ^ 
     go (yes i) ih = let e : length (decimalBy (suc k) n) ≡ 1 = ap length (by-one k n i) in omega arith
     go (no i) ih =
         let g : length (decimalBy k (n / 10)) ≤ suc m = ih (omega arith) in
-        let e : length (decimalBy (suc k) n) ≡ length (decimalBy k (n / 10)) + 1 = ap length (by-more k n (omega arith)) ∙ length-append (decimalBy k (n / 10)) ((48 + n % 10) ∷ []) in
+        let e : length (decimalBy (suc k) n) ≡ length (decimalBy k (n / 10)) + 1 =
+        ap length (by-more k n (omega arith)) ∙ length-append (decimalBy k (n / 10)) ((48 + n % 10) ∷ []) in
         omega arith
 
 -- a usize has 20 digits at most

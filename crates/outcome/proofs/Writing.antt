@@ -18,7 +18,8 @@ further a b r q e h =
     sym (go b) ∙ ap (drop (q - r)) e ∙ go a
 
 -- b is a with the whole of w pasted in
-pub pasted : (a b : List ℕ) (at : ℕ) (w : List ℕ) (i : ℕ) → at + length w ≤ length a → i ≡ length w → b ≡ paste a at w i → Wrote a b at (at + i) (at + length w) (take at a ++ w)
+pub pasted : (a b : List ℕ) (at : ℕ) (w : List ℕ) (i : ℕ) → at + length w ≤ length a → i ≡ length w → b ≡ paste a at w i
+    → Wrote a b at (at + i) (at + length w) (take at a ++ w)
 pasted a b at w i h e f = record {
   is = rw (f, e) (take-paste a at w (length w) (omega arith) (omega arith) ∙ ap (λ (l : List ℕ). take at a ++ l) (take-all (length w) w (omega arith)));
   rest = rw (f, e) (drop-paste a at w (length w) (omega arith) (omega arith));
@@ -28,7 +29,8 @@ pasted a b at w i h e f = record {
 }
 
 -- a byte after the text
-pub byte : (a b : List ℕ) (at r most more x : ℕ) (t : List ℕ) → Wrote a b at r most t → r < length b → most + 1 ≤ more → Wrote a (set b r x) at (r + 1) more (t ++ (x ∷ []))
+pub byte : (a b : List ℕ) (at r most more x : ℕ) (t : List ℕ) → Wrote a b at r most t → r < length b → most + 1 ≤ more
+    → Wrote a (set b r x) at (r + 1) more (t ++ (x ∷ []))
 byte a b at r most more x t w h g = record {
   is = ap (λ (k : ℕ). take k (set b r x)) (add-one r) ∙ take-suc-set b r x h ∙ ap (λ (l : List ℕ). l ++ (x ∷ [])) (w .is);
   rest = drop-set-lt (r + 1) b r x (omega arith) ∙ further a b r (r + 1) (w .rest) (omega arith);
@@ -41,7 +43,8 @@ pub start : (a : List ℕ) (at : ℕ) → Wrote a a at at at (take at a)
 start a at = record { is = refl; rest = refl; onward = omega arith; near = omega arith; whole = refl }
 
 -- what goes on from the first r bytes of b goes on from their text
-pub onto : {a b c : List ℕ} {at r most q some : ℕ} {t : List ℕ} (f : List ℕ → List ℕ) (more : ℕ) → Wrote a b at r most t → Wrote b c r q some (f (take r b)) → (r ≤ most → some ≤ more) → Wrote a c at q more (f t)
+pub onto : {a b c : List ℕ} {at r most q some : ℕ} {t : List ℕ} (f : List ℕ → List ℕ) (more : ℕ) → Wrote a b at r most t → Wrote b c r q some (f (take r b))
+    → (r ≤ most → some ≤ more) → Wrote a c at q more (f t)
 onto {a = a} {b = b} {r = r} {q = q} f more v w h = record {
   is = w .is ∙ ap f (v .is);
   rest = w .rest ∙ further a b r q (v .rest) (w .onward);
@@ -52,7 +55,8 @@ onto {a = a} {b = b} {r = r} {q = q} f more v w h = record {
 
 -- ---- digits
 
-pub digits-one : (a : List ℕ) (at n x : ℕ) → n < 10 → at + length (decimal n) ≤ length a → x ≡ 48 + n → Wrote a (set a at x) at (at + 1) (at + length (decimal n)) (take at a ++ decimal n)
+pub digits-one : (a : List ℕ) (at n x : ℕ) → n < 10 → at + length (decimal n) ≤ length a → x ≡ 48 + n
+    → Wrote a (set a at x) at (at + 1) (at + length (decimal n)) (take at a ++ decimal n)
 digits-one a at n x h g e =
     let l : length (decimal n) ≡ 1 = one-length n h in
     subst (λ (d : List ℕ). Wrote a (set a at x) at (at + 1) (at + length (decimal n)) (take at a ++ d)) (ap (λ (y : ℕ). y ∷ []) e ∙ sym (one-digit n h))
@@ -66,5 +70,6 @@ digits-more a b at n r x h g w e =
     let i = w .near in
     let j = w .whole in
     subst (λ (d : List ℕ). Wrote a (set b r x) at (r + 1) (at + length (decimal n)) d)
-    (append-assoc (take at a) (decimal (n / 10)) (x ∷ []) ∙ ap (λ (l : List ℕ). take at a ++ l) (ap (λ (y : ℕ). decimal (n / 10) ++ (y ∷ [])) e ∙ sym (more-digits n h)))
+    (append-assoc (take at a) (decimal (n / 10)) (x ∷ [])
+    ∙ ap (λ (l : List ℕ). take at a ++ l) (ap (λ (y : ℕ). decimal (n / 10) ++ (y ∷ [])) e ∙ sym (more-digits n h)))
     (byte a b at r (at + length (decimal (n / 10))) (at + length (decimal n)) x (take at a ++ decimal (n / 10)) w (omega arith) (omega arith))

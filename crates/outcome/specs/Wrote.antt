@@ -4,7 +4,8 @@ use mathlib.Core.List.{List}
 use Prim.Native.Nat.{ℕ, _≤_}
 use lib.ListN.{length, take, drop}
 
--- From the bytes a to the bytes b, something was written from `at` up to r, which is at most `most`: the first r bytes are then `text`, the others as they were.
+-- From the bytes a to the bytes b, something was written from `at` up to r, which is at most `most`: the first r bytes are then `text`, the others as they
+-- were.
 pub record Wrote (a b : List ℕ) (at r most : ℕ) (text : List ℕ) : Type 0 where
   pub is : take r b ≡ text
   pub rest : drop r b ≡ drop r a

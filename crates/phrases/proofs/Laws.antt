@@ -13,7 +13,8 @@ use Rattle.kinds.specs.declared.Fit.{Fit}
 use Rattle.kinds.proofs.Laws.{then-good, then-bad, feed-none, feed-same, feed-differ, feed-append}
 use Rattle.phrases.specs.declared.Form.{Form}
 use Rattle.phrases.specs.declared.Form.the-variants.{Ends, Broken, NoVerb}
-use Rattle.phrases.specs.Phrases.{arityBy, factNext, factsNext, thenBy, phraseFormBy, levelsFormBy, factFormBy, factsFormBy, placeAt, paramsAsks, levelsAsks, factAsks, factsAsks, testAsks, testsAsks}
+use Rattle.phrases.specs.Phrases.{arityBy, factNext, factsNext, thenBy, phraseFormBy, levelsFormBy, factFormBy, factsFormBy, placeAt, paramsAsks}
+use Rattle.phrases.specs.Phrases.{levelsAsks, factAsks, factsAsks, testAsks, testsAsks}
 
 -- ---- where facts end
 

@@ -23,7 +23,8 @@ use Rattle.kinds.specs.Asks.{kindTerm, varTerm, termOf, placeTerm, askPlace, op
 use Rattle.phrases.specs.declared.Form.{Form}
 use Rattle.phrases.specs.declared.Form.the-variants.{Ends, Broken, NoVerb}
 use Rattle.phrases.specs.Tables.{Tables}
-use Rattle.phrases.specs.Phrases.{arityBy, levelsBy, factBy, factNext, factsBy, factsNext, codeForm, thenBy, phraseFormBy, levelsFormBy, factFormBy, factsFormBy, termBy, placeBy, termAt, placeAt, paramsAsks, levelsAsks, factAsks, factsAsks, testAsks, testsAsks}
+use Rattle.phrases.specs.Phrases.{arityBy, levelsBy, factBy, factNext, factsBy, factsNext, codeForm, thenBy, phraseFormBy, levelsFormBy, factFormBy}
+use Rattle.phrases.specs.Phrases.{factsFormBy, termBy, placeBy, termAt, placeAt, paramsAsks, levelsAsks, factAsks, factsAsks, testAsks, testsAsks}
 
 -- a number past the verbs has no parameters
 past-kinds : (vs : List Verb) (v : ℕ) → length vs < v → paramKinds vs v ≡ []
@@ -39,7 +40,8 @@ unfolding choose
 code-choose true x y = refl
 code-choose false x y = refl
 
-then-code : (x : Form) (φ : forms.Form) (f : ℕ → Form) (g : ℕ → forms.Form) → x ≡ codeForm φ → ((q : ℕ) → f q ≡ codeForm (g q)) → thenBy x f ≡ codeForm (thenForm φ g)
+then-code : (x : Form) (φ : forms.Form) (f : ℕ → Form) (g : ℕ → forms.Form) → x ≡ codeForm φ → ((q : ℕ) → f q ≡ codeForm (g q))
+    → thenBy x f ≡ codeForm (thenForm φ g)
 unfolding thenBy thenForm codeForm
 then-code x (forms.ends p) f g e h = rw e (h p)
 then-code x forms.broken f g e h = rw e
@@ -48,7 +50,10 @@ then-code x forms.noVerb f g e h = rw e
 -- where the levels end, counted from their start
 levels-end : (vs : List Verb) (m : ℕ) (s : List ℕ) (p : ℕ) → levelsEnd vs m s p ≡ p + 3 + 3 * m + 2 * arityOf vs (byteAt s (p + 3 * m + 2))
 unfolding levelsEnd
-levels-end vs zero s p = let e : p + 2 ≡ p + 3 * 0 + 2 = omega arith in let d : p + 3 ≡ p + 3 + 3 * 0 = omega arith in ap₂ (λ (x y : ℕ). x + 2 * arityOf vs (byteAt s y)) d e
+levels-end vs zero s p =
+    let e : p + 2 ≡ p + 3 * 0 + 2 = omega arith in
+    let d : p + 3 ≡ p + 3 + 3 * 0 = omega arith in
+    ap₂ (λ (x y : ℕ). x + 2 * arityOf vs (byteAt s y)) d e
 levels-end vs (suc m) s p =
     let e : p + 3 + 3 * m + 2 ≡ p + 3 * suc m + 2 = omega arith in
     let d : p + 3 + 3 + 3 * m ≡ p + 3 + 3 * suc m = omega arith in
@@ -60,7 +65,8 @@ unfolding choose
 of-choice f true x y = refl
 of-choice f false x y = refl
 
-of-expr : {A : Type 0} (f : Expr → A) (x : ℕ) → f (exprOf x) ≡ choose (eqb x todayCode) (f today) (choose (ltb x firstVariable) (f (con x)) (f (var (x - firstVariable))))
+of-expr : {A : Type 0} (f : Expr → A) (x : ℕ)
+    → f (exprOf x) ≡ choose (eqb x todayCode) (f today) (choose (ltb x firstVariable) (f (con x)) (f (var (x - firstVariable))))
 unfolding exprOf
 of-expr f x =
     of-choice f (eqb x todayCode) today _
@@ -114,12 +120,14 @@ module _ {cs : List Constant} {vs : List Verb} {ks sg : List ℕ} (X : Tables cs
     abbrev spans : ℕ → ℕ → forms.Form
     spans p a = choose (ltb e (p + 3 + 2 * a)) forms.broken (forms.ends (p + 3 + 2 * a))
 
-    verb-is : (p v : ℕ) → choose (eqb (byteAt sg (4 * v)) 0) NoVerb (choose (ltb e (p + 1 + 2 * byteAt sg (4 * v))) Broken (Ends (p + 1 + 2 * byteAt sg (4 * v))))
+    verb-is : (p v : ℕ)
+        → choose (eqb (byteAt sg (4 * v)) 0) NoVerb (choose (ltb e (p + 1 + 2 * byteAt sg (4 * v))) Broken (Ends (p + 1 + 2 * byteAt sg (4 * v))))
         ≡ choose (ltb (length vs) v) NoVerb (codeForm (spans p (arityOf vs v)))
     unfolding codeForm
     verb-is p v = go (decLt (length vs) v)
       where
-        go : Dec (length vs < v) → choose (eqb (byteAt sg (4 * v)) 0) NoVerb (choose (ltb e (p + 1 + 2 * byteAt sg (4 * v))) Broken (Ends (p + 1 + 2 * byteAt sg (4 * v))))
+        go : Dec (length vs < v)
+            → choose (eqb (byteAt sg (4 * v)) 0) NoVerb (choose (ltb e (p + 1 + 2 * byteAt sg (4 * v))) Broken (Ends (p + 1 + 2 * byteAt sg (4 * v))))
             ≡ choose (ltb (length vs) v) NoVerb (codeForm (spans p (arityOf vs v)))
         go (yes h) = choose-true NoVerb _ (eq-eqb (byteAt sg (4 * v)) 0 (X .past v h)) ∙ sym (choose-true NoVerb _ (lt-ltb (length vs) v h))
         go (no h) =
@@ -229,7 +237,8 @@ module _ {cs : List Constant} {vs : List Verb} {ks sg : List ℕ} (X : Tables cs
   pair-kinds : (js : List ℕ) (es : List Expr) (p : ℕ × Expr) → List·Memᴰ p (pair js es) → List·Memᴰ (p .0) js
   pair-kinds [] es p m = absurd (List·Memᴰ·not-nil m)
   pair-kinds (j ∷ js) [] p m = absurd (List·Memᴰ·not-nil m)
-  pair-kinds (j ∷ js) (e ∷ es) p m = ⊎-elim (λ q. List·Memᴰ·head (ap (λ (x : ℕ × Expr). x .0) q)) (λ n. List·Memᴰ·tail (pair-kinds js es p n)) (List·Memᴰ·cases-cons m)
+  pair-kinds (j ∷ js) (e ∷ es) p m =
+      ⊎-elim (λ q. List·Memᴰ·head (ap (λ (x : ℕ × Expr). x .0) q)) (λ n. List·Memᴰ·tail (pair-kinds js es p n)) (List·Memᴰ·cases-cons m)
 
   param-kinds : (v k : ℕ) → List·Memᴰ k (paramKinds vs v) → (1 ≤ k) × (k ≤ 4)
   param-kinds v k m = go (decLt (length vs) v)

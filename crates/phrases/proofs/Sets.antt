@@ -7,23 +7,17 @@ use native.Mathlib.Omega.{arith}
 use lib.Dec.{T, eqb}
 use lib.ListN.{length, getD, set, length-set}
 use lib.Seq.{getD-set-same, getD-set-other, ext-getD}
-use borrow.Author.Tests.{eq-eqb, ne-eqb, eqb-true, eqb-false}
+use borrow.Author.Tests.{eq-eqb, ne-eqb}
 use Rattle.model.specs.Bytes.{choose, both}
 use Rattle.model.specs.Lists.{keep, member, among, without}
 use Rattle.model.proofs.ListFacts.{and-of, and-in, all-of, all-in, keep-of, keep-in, member-of, member-in}
 use Rattle.wire.proofs.Reading.{choose-true, choose-false}
 use Rattle.phrases.specs.Marks.{none, marked, within, meet}
+use Rattle.model.proofs.Tests.{by-eq, T-iff, eqb-turned}
 
 pub marked-append : (xs ys m : List ℕ) → marked (xs ++ ys) m ≡ marked ys (marked xs m)
 marked-append [] ys m = refl
 marked-append (x ∷ xs) ys m = marked-append xs ys (set m x 1)
-
-by-eq : {P : Type 0} (x a : ℕ) → (x ≡ a → P) → ((x ≡ a → ⊥) → P) → P
-by-eq {P} x a f g = go (eqb x a) refl
-  where
-    go : (q : Bool) → eqb x a ≡ q → P
-    go true e = f (eqb-true x a e)
-    go false e = g (eqb-false x a e)
 
 pub marked-length : (vs m : List ℕ) → length (marked vs m) ≡ length m
 marked-length [] m = refl
@@ -75,12 +69,6 @@ of-none vs v l = marked-at vs none v l ∙ ap (choose (member v vs) 1) (none-at 
 pub mark-is : (vs : List ℕ) (v : ℕ) → v < 8 → eqb (getD (marked vs none) v 0) 1 ≡ member v vs
 mark-is vs v l = ap (λ (x : ℕ). eqb x 1) (of-none vs v l) ∙ mark-bit (member v vs)
 
-same-test : (a b : Bool) → (T a → T b) → (T b → T a) → a ≡ b
-same-test true true f g = refl
-same-test true false f g = absurd (f tt)
-same-test false true f g = absurd (g tt)
-same-test false false f g = refl
-
 -- `within`, mark by mark
 
 module _ (a b : List ℕ) where
@@ -113,9 +101,15 @@ module _ (a b : List ℕ) where
 
 -- of variables among the eight: each of the first is among the second
 pub within-is : (vs ws : List ℕ) → ((v : ℕ) → List·Memᴰ v vs → v < 8) → within 8 (marked vs none) (marked ws none) ≡ among vs ws
-within-is vs ws low = same-test (within 8 (marked vs none) (marked ws none)) (among vs ws)
-    (λ t. all-in (λ v. member v ws) vs (λ v m. subst T (mark-is ws v (low v m)) (within-of (marked vs none) (marked ws none) 8 t v (low v m) (subst T (sym (mark-is vs v (low v m))) (member-in m)))))
-    (λ t. within-in (marked vs none) (marked ws none) 8 (λ v l u. subst T (sym (mark-is ws v l)) (all-of (λ v. member v ws) t (member-of v vs (subst T (mark-is vs v l) u)))))
+within-is vs ws low = T-iff (within 8 (marked vs none) (marked ws none)) (among vs ws)
+    (λ t. all-in (λ v. member v ws) vs (λ v m. forth t v (low v m) m))
+    (λ t. within-in (marked vs none) (marked ws none) 8 (back t))
+  where
+    forth : T (within 8 (marked vs none) (marked ws none)) → (v : ℕ) → v < 8 → List·Memᴰ v vs → T (member v ws)
+    forth t v l m = subst T (mark-is ws v l) (within-of (marked vs none) (marked ws none) 8 t v l (subst T (sym (mark-is vs v l)) (member-in m)))
+
+    back : T (among vs ws) → (v : ℕ) → v < 8 → Held (marked vs none) (marked ws none) v
+    back t v l u = subst T (sym (mark-is ws v l)) (all-of (λ v. member v ws) t (member-of v vs (subst T (mark-is vs v l) u)))
 
 -- `meet`, mark by mark
 
@@ -166,7 +160,7 @@ module _ (b : List ℕ) where
       (λ (d : v ≡ n → ⊥). meet-at n (cut n a) v (omega arith) (rw (cut-length n a) l) ∙ ap (λ (x : ℕ). choose (eqb (getD b v 0) 1) x 0) (cut-other n a v d))
 
 member-keep : (p : ℕ → Bool) (v : ℕ) (vs : List ℕ) → member v (keep p vs) ≡ member v vs && p v
-member-keep p v vs = same-test (member v (keep p vs)) (member v vs && p v)
+member-keep p v vs = T-iff (member v (keep p vs)) (member v vs && p v)
     (λ t. let r = keep-of p vs (member-of v (keep p vs) t) in and-in (member v vs) (p v) (member-in (r .0)) (r .1))
     (λ t. let r = and-of (member v vs) (p v) t in member-in (keep-in p (member-of v vs (r .0)) (r .1)))
 
@@ -201,9 +195,6 @@ choose-out true true c e = rw e
 choose-out true false c e = rw e
 choose-out false true c e = refl
 choose-out false false c e = refl
-
-eqb-turned : (v w : ℕ) → eqb v w ≡ eqb w v
-eqb-turned v w = by-eq v w (λ e. eq-eqb v w e ∙ sym (eq-eqb w v (sym e))) (λ n. ne-eqb v w n ∙ sym (ne-eqb w v (λ e. n (sym e))))
 
 -- one variable taken out
 pub drop-is : (v : ℕ) (vs : List ℕ) → set (marked vs none) v 0 ≡ marked (without v vs) none

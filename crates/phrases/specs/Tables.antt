@@ -1,5 +1,6 @@
 -- What the readers of facts need of the policy, as two tables of bytes.
--- `ks`: the kind of each constant, 0 past the last. `sg`: a row of 4 bytes for each verb from verb 0 on, its arity and one, then the kinds of its parameters; 0 past the last verb.
+-- `ks`: the kind of each constant, 0 past the last. `sg`: a row of 4 bytes for each verb from verb 0 on, its arity and one, then the kinds of its
+-- parameters; 0 past the last verb.
 use Prim.Native.Nat.{ℕ, suc, _+_, _*_, _≤_, _<_}
 use mathlib.Core.Path.{_≡_}
 use mathlib.Core.List.{List, List·Memᴰ}

@@ -2,7 +2,8 @@
 use mathlib.Core.Path.{_≡_, refl, sym, _∙_, ap, ap₂, subst}
 use mathlib.Core.Bool.{Bool, true, false, _&&_}
 use mathlib.Core.Logic.{⊎-elim}
-use mathlib.Core.List.{List, [], _∷_, _++_, map, map-append, append-assoc, List·Memᴰ, List·Memᴰ·head, List·Memᴰ·tail, List·Memᴰ·not-nil, List·Memᴰ·cases-cons, List·Memᴰ·append-cases, Memᴰ·append-left, Memᴰ·append-right}
+use mathlib.Core.List.{List, [], _∷_, _++_, map, map-append, append-assoc, List·Memᴰ, List·Memᴰ·head, List·Memᴰ·tail, List·Memᴰ·not-nil, List·Memᴰ·cases-cons}
+use mathlib.Core.List.{List·Memᴰ·append-cases, Memᴰ·append-left, Memᴰ·append-right}
 use Prim.Native.Nat.{ℕ, zero, suc, _+_, _-_, _*_, _≤_, _<_}
 use native.Mathlib.Omega.{arith}
 use lib.Dec.{T, eqb, leb, ltb, eqb·suc-zero}
@@ -36,11 +37,16 @@ use Rattle.phrases.proofs.Sets.{marked-append, within-is}
 use Rattle.policy.specs.declared.slices.Step.{Step}
 use Rattle.policy.specs.declared.slices.Step.the-variants.{Next, Refused}
 use Rattle.policy.specs.Steps.{step}
-use Rattle.policy.specs.Assertions.{testsFormBy, bodyFormBy, statementFormBy, assertionFormBy, testsBy, bodyAsks, statementAsks, fitsBy, bodyMarks, headSafeBy, testsSafeBy, safeBy, judgedBy, itemBy}
+use Rattle.policy.specs.Assertions.{testsFormBy, bodyFormBy, statementFormBy, assertionFormBy, testsBy, bodyAsks, statementAsks, fitsBy, bodyMarks}
+use Rattle.policy.specs.Assertions.{headSafeBy, testsSafeBy, safeBy, judgedBy, itemBy}
+use Rattle.model.proofs.ReaderEnds.{no-broken, then-ends}
+use Rattle.model.proofs.Tests.{true-T}
 
 -- ---- form
 
-code-tests : (a b c d : Bool) (e : ℕ) → choose a Broken (choose b Broken (choose c (choose d (Ends e) Broken) Broken)) ≡ codeForm (choose a broken (choose b broken (choose c (choose d (ends e) broken) broken)))
+code-tests : (a b c d : Bool) (e : ℕ)
+    → choose a Broken (choose b Broken (choose c (choose d (Ends e) Broken) Broken))
+    ≡ codeForm (choose a broken (choose b broken (choose c (choose d (ends e) broken) broken)))
 unfolding choose codeForm
 code-tests true b c d e = refl
 code-tests false true c d e = refl
@@ -53,7 +59,8 @@ unfolding choose codeForm
 code-broken true φ ψ e = refl
 code-broken false φ ψ e = e
 
-code-then : (φ : forms.Form) (ψ : Form) (f : ℕ → Form) (g : ℕ → forms.Form) → ψ ≡ codeForm φ → ((p : ℕ) → f p ≡ codeForm (g p)) → thenBy ψ f ≡ codeForm (thenForm φ g)
+code-then : (φ : forms.Form) (ψ : Form) (f : ℕ → Form) (g : ℕ → forms.Form) → ψ ≡ codeForm φ → ((p : ℕ) → f p ≡ codeForm (g p))
+    → thenBy ψ f ≡ codeForm (thenForm φ g)
 unfolding thenBy thenForm codeForm
 code-then (ends p) ψ f g e h = rw e (h p)
 code-then broken ψ f g e h = rw e
@@ -70,31 +77,21 @@ module _ {cs : List Constant} {vs : List Verb} {ks sg : List ℕ} (X : Tables cs
 
   pub assertion-form : (at : ℕ) → assertionFormBy sg s at ≡ codeForm (assertionForm vs s at)
   unfolding assertionFormBy assertionForm statementFormBy statementForm
-  assertion-form at = code-broken _ _ _ (code-broken _ _ _ (code-broken _ _ _ (code-then _ _ _ _ (phrase.form-is X s (assertionEnd s at) (at + 2 + 6)) (body-form (assertionEnd s at)))))
+  assertion-form at =
+      let end = assertionEnd s at in
+      code-broken _ _ _ (code-broken _ _ _ (code-broken _ _ _ (code-then _ _ _ _ (phrase.form-is X s end (at + 2 + 6)) (body-form end))))
 
 -- ---- what an assertion of right form is sure to have
 
-ends-not : (q : ℕ) → broken ≡ ends q → ⊥
-ends-not q h = let z : _≡_ {A = ℕ} 0 1 = cc in omega arith
-
-noVerb-not : (q : ℕ) → noVerb ≡ ends q → ⊥
-noVerb-not q h = let z : _≡_ {A = ℕ} 0 1 = cc in omega arith
-
 past : (b : Bool) (x : forms.Form) (q : ℕ) → choose b broken x ≡ ends q → (b ≡ false) × (x ≡ ends q)
 unfolding choose
-past true x q h = absurd (ends-not q h)
+past true x q h = absurd (no-broken q h)
 past false x q h = (refl, h)
 
 passed : (b : Bool) (x : forms.Form) (q : ℕ) → choose b x broken ≡ ends q → (b ≡ true) × (x ≡ ends q)
 unfolding choose
 passed true x q h = (refl, h)
-passed false x q h = absurd (ends-not q h)
-
-then-got : (x : forms.Form) (f : ℕ → forms.Form) (q : ℕ) → thenForm x f ≡ ends q → (p : ℕ) × (x ≡ ends p) × (f p ≡ ends q)
-unfolding thenForm
-then-got (ends p) f q h = (p, refl, h)
-then-got broken f q h = absurd (ends-not q h)
-then-got noVerb f q h = absurd (noVerb-not q h)
+passed false x q h = absurd (no-broken q h)
 
 pub record Shaped (vs : List Verb) (s : List ℕ) (at e : ℕ) : Type 0 where
   pub end : e ≡ assertionEnd s at
@@ -113,8 +110,8 @@ module _ (vs : List Verb) (s : List ℕ) where
   unfolding assertionForm statementForm bodyForm bodyAt testsAt
   shaped at e h =
       let a = past _ _ e (past _ _ e h .1) in
-      let b = then-got _ _ e (past _ _ e (a .1) .1) in
-      let c = then-got _ _ e (past _ _ e (past _ _ e (b .2) .1) .1) in
+      let b = then-ends _ _ e (past _ _ e (a .1) .1) in
+      let c = then-ends _ _ e (past _ _ e (past _ _ e (b .2) .1) .1) in
       let t = tests-right (assertionEnd s at) (c .0) e (c .2) in
       let w = ltb-false (length s) (assertionEnd s at) (a .0) in
       let m : at + 2 + 6 ≡ at + 8 = omega arith in
@@ -138,7 +135,9 @@ module _ {cs : List Constant} {vs : List Verb} {ks sg : List ℕ} (X : Tables cs
   unfolding statementAsks bodyAsks testsBy assertionAt bodyAt testsAt
   asks-are =
       rw (phrase.next-is X s (at + 8), phrase.nexts-are X _ s _, phrase.fact-asks X s (at + 8), phrase.facts-asks X s _ _, phrase.tests-asks X s _ _)
-      (sym (ap (λ (l : List Ask). l ++ each (stated .tests) (askTest cs)) (map-append (askPlace cs) (places vs (stated .head)) (each (stated .body) (places vs))) ∙ append-assoc (map (askPlace cs) (places vs (stated .head))) (map (askPlace cs) (each (stated .body) (places vs))) (each (stated .tests) (askTest cs))))
+      (sym (ap (λ (l : List Ask). l ++ each (stated .tests) (askTest cs))
+      (map-append (askPlace cs) (places vs (stated .head)) (each (stated .body) (places vs)))
+      ∙ append-assoc (map (askPlace cs) (places vs (stated .head))) (map (askPlace cs) (each (stated .body) (places vs))) (each (stated .tests) (askTest cs))))
 
   regular : {e : ℕ} → Shaped vs s at e → Regular cs (demandsOf vs stated)
   unfolding assertionAt
@@ -150,7 +149,8 @@ module _ {cs : List Constant} {vs : List Verb} {ks sg : List ℕ} (X : Tables cs
 
   pub fits-is : {e : ℕ} → Shaped vs s at e → fitsBy ks sg s at ≡ fitsAssertion cs vs stated
   unfolding fitsBy assertionAt
-  fits-is S = both-and _ _ (ap (λ (k : ℕ). eqb k principal) (X .kinds (u16At s (at + 6)))) (ap (λ (qs : List Ask). feed qs nothing .ok) asks-are ∙ fits cs (demandsOf vs stated) (regular S))
+  fits-is S = both-and _ _ (ap (λ (k : ℕ). eqb k principal) (X .kinds (u16At s (at + 6))))
+      (ap (λ (qs : List Ask). feed qs nothing .ok) asks-are ∙ fits cs (demandsOf vs stated) (regular S))
 
 -- ---- safety: a variable of a fact stands in one of its places
 
@@ -162,9 +162,13 @@ paired [] es e l m = absurd (none-there es l m)
     none-there (x ∷ es) l m = omega arith
 paired (k ∷ ks) [] e l m = absurd (List·Memᴰ·not-nil m)
 paired (k ∷ ks) (x ∷ es) e l m =
-    ⊎-elim (λ q. (k, List·Memᴰ·head (ap (λ (y : Expr). (k, y)) q))) (λ n. let r = paired ks es e (omega arith) n in (r .0, List·Memᴰ·tail (r .1))) (List·Memᴰ·cases-cons m)
+    ⊎-elim
+    (λ q. (k, List·Memᴰ·head (ap (λ (y : Expr). (k, y)) q)))
+    (λ n. let r = paired ks es e (omega arith) n in (r .0, List·Memᴰ·tail (r .1)))
+    (List·Memᴰ·cases-cons m)
 
-placed : (vs : List Verb) (f : Fact Expr) (v : ℕ) → Arity vs f → List·Memᴰ v (varsIn f) → (p : ℕ × Expr) × List·Memᴰ p (places vs f) × List·Memᴰ v (varsOf (p .1))
+placed : (vs : List Verb) (f : Fact Expr) (v : ℕ) → Arity vs f → List·Memᴰ v (varsIn f)
+    → (p : ℕ × Expr) × List·Memᴰ p (places vs f) × List·Memᴰ v (varsOf (p .1))
 placed vs (flat e w es) v a m = ⊎-elim (λ n. ((principal, e), List·Memᴰ·head refl, n)) later (List·Memᴰ·append-cases (varsOf e) m)
   where
     later : List·Memᴰ v (each es varsOf) → (p : ℕ × Expr) × List·Memᴰ p (places vs (flat e w es)) × List·Memᴰ v (varsOf (p .1))
@@ -188,7 +192,8 @@ both-three a b c {x} {y} {z} d e f = both-and a (both b c) d (both-and b c e f) 
     regroup true y z = refl
     regroup false y z = refl
 
-module _ {cs : List Constant} {vs : List Verb} {ks sg : List ℕ} (X : Tables cs vs ks sg) (s : List ℕ) (at : ℕ) {e : ℕ} (S : Shaped vs s at e) (fit : T (fitting cs (demandsOf vs (assertionAt vs s at)))) where
+module _ {cs : List Constant} {vs : List Verb} {ks sg : List ℕ} (X : Tables cs vs ks sg) (s : List ℕ) (at : ℕ) {e : ℕ} (S : Shaped vs s at e)
+    (fit : T (fitting cs (demandsOf vs (assertionAt vs s at)))) where
   abbrev said : Assertion
   said = assertionAt vs s at
 
@@ -223,20 +228,19 @@ module _ {cs : List Constant} {vs : List Verb} {ks sg : List ℕ} (X : Tables cs
   unfolding testsBy testsAt bodyAt
   tests-at = rw (phrase.next-is X s (at + 8), phrase.nexts-are X _ s _)
 
-  tests-are : testsSafeBy sg s (at + 8) (factNext sg s (at + 8)) (testsBy sg s (factNext sg s (at + 8))) ≡ among (each (said .tests) varsTest) (varsIn (said .head) ++ inBody)
+  tests-are : testsSafeBy sg s (at + 8) (factNext sg s (at + 8)) (testsBy sg s (factNext sg s (at + 8)))
+      ≡ among (each (said .tests) varsTest) (varsIn (said .head) ++ inBody)
   unfolding testsSafeBy assertionAt
   tests-are =
       rw (tests-at, body-is _, phrase.fact-is X s (at + 8))
-      (ap (within 8 (marked (each (said .tests) varsTest) none)) (sym (marked-append (varsIn (said .head)) inBody none)) ∙ within-is (each (said .tests) varsTest) (varsIn (said .head) ++ inBody) tests-low)
+      (ap (within 8 (marked (each (said .tests) varsTest) none)) (sym (marked-append (varsIn (said .head)) inBody none))
+      ∙ within-is (each (said .tests) varsTest) (varsIn (said .head) ++ inBody) tests-low)
 
   pub safe-is : safeBy sg s (at + 8) (factNext sg s (at + 8)) ≡ safeAssertion said
   unfolding safeBy
   safe-is = both-three _ _ _ flat-is head-is tests-are
 
 -- ---- the item
-
-T-of : (b : Bool) → b ≡ true → T b
-T-of b e = subst T (sym e) tt
 
 -- fit, then safe: the tests agree, the second where the first passes
 judge : {A : Type 0} (a : A) (f g h k : Bool) (at e : ℕ) → f ≡ g → (g ≡ true → h ≡ k)
@@ -250,7 +254,8 @@ module _ {cs : List Constant} {vs : List Verb} {ks sg : List ℕ} (X : Tables cs
   judged-is : (at e : ℕ) → Shaped vs s at e → judgedBy ks sg s at e ≡ step (judged cs vs (assertionAt vs s at) at e)
   unfolding judgedBy judged
   judged-is at e S =
-      judge (assertionAt vs s at) _ _ _ _ at e (fits-is X s at S) (λ h. safe-is X s at S (and-of (eqb (kindAt cs (assertionAt vs s at .issuer)) principal) _ (T-of _ h) .1))
+      judge (assertionAt vs s at) _ _ _ _ at e (fits-is X s at S)
+      (λ h. safe-is X s at S (and-of (eqb (kindAt cs (assertionAt vs s at .issuer)) principal) _ (true-T _ h) .1))
 
   pub item-is : (at : ℕ) (before : List Assertion) → itemBy ks sg s (assertionFormBy sg s at) at ≡ step (assertionItem cs vs s before at)
   unfolding assertionItem assertionBy itemBy codeForm step

@@ -71,11 +71,13 @@ numbers-none : (b : Bool) → (b && true) ≡ b
 numbers-none true = refl
 numbers-none false = refl
 
-labelled : (b c : Bool) (l m : List ℕ) (x y : ℕ) → b ≡ true → c ≡ true → (sameList (choose b l []) (choose c m []) && eqb (choose b 0 x) (choose c 0 y)) ≡ sameList l m
+labelled : (b c : Bool) (l m : List ℕ) (x y : ℕ) → b ≡ true → c ≡ true
+    → (sameList (choose b l []) (choose c m []) && eqb (choose b 0 x) (choose c 0 y)) ≡ sameList l m
 unfolding choose
 labelled b c l m x y d e = rw (d, e) (numbers-none (sameList l m))
 
-numbered : (b c : Bool) (l m : List ℕ) (x y : ℕ) → b ≡ false → c ≡ false → (sameList (choose b l []) (choose c m []) && eqb (choose b 0 x) (choose c 0 y)) ≡ eqb x y
+numbered : (b c : Bool) (l m : List ℕ) (x y : ℕ) → b ≡ false → c ≡ false
+    → (sameList (choose b l []) (choose c m []) && eqb (choose b 0 x) (choose c 0 y)) ≡ eqb x y
 unfolding choose
 numbered b c l m x y d e = rw (d, e)
 
@@ -98,7 +100,9 @@ module _ (s : List ℕ) (q p : ℕ) where
       and-yes (eqb (byteAt s (q + 1)) (byteAt s (p + 1))) _ z (eq-eqb _ _ e)
       (h ∙ sym (numbered (hasLabel (byteAt s (q + 1))) (hasLabel (byteAt s (p + 1))) _ _ _ _ k (ap hasLabel (sym e) ∙ k)))
 
-  pub verbs-alike : (z : Bool) → z ≡ sameList (bytesAt (byteAt s q - 1 - byteAt s (q + 1)) s (q + 2 + byteAt s (q + 1))) (bytesAt (byteAt s p - 1 - byteAt s (p + 1)) s (p + 2 + byteAt s (p + 1)))
+  pub verbs-alike : (z : Bool)
+      → z ≡ sameList (bytesAt (byteAt s q - 1 - byteAt s (q + 1)) s (q + 2 + byteAt s (q + 1)))
+      (bytesAt (byteAt s p - 1 - byteAt s (p + 1)) s (p + 2 + byteAt s (p + 1)))
       → z ≡ alikeVerbs (verbAt s q) (verbAt s p)
   unfolding verbAt
   verbs-alike z h = h

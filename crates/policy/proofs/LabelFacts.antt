@@ -1,13 +1,11 @@
 -- The label of a constant is a part of the policy's bytes.
 use mathlib.Core.Path.{_≡_, refl, sym, _∙_, ap, ap₂, subst}
 use mathlib.Core.Bool.{Bool, true, false}
-use mathlib.Core.List.{List, [], _∷_, map}
-use Prim.Native.Nat.{ℕ, zero, suc, _+_, _-_, _≤_, _<_}
-use native.Mathlib.Numerals.{add-one}
+use mathlib.Core.List.{List, [], map}
+use Prim.Native.Nat.{ℕ, _+_, _-_, _≤_, _<_}
 use native.Mathlib.Omega.{arith}
 use native.Mathlib.Decide.{decLt}
 use lib.ListN.{length, getD, take, drop, List·getD-eq-default}
-use lib.Seq.{drop-cons}
 use borrow.Author.Tests.{lt-ltb, le-ltb}
 use Rattle.wire.proofs.Reading.{choose-true, choose-false, on-yes, on-no}
 use Rattle.model.specs.Limits.{maxConstants}
@@ -29,14 +27,7 @@ use Rattle.policy.proofs.TableFacts.{held-at, kind-is}
 use Rattle.policy.proofs.PolicyFacts.{Constants, constants-counted, constants-right}
 use Rattle.model.proofs.PolicyReader.{policy-is}
 use Rattle.model.specs.Policies.{computedPolicy}
-
--- n bytes from p on are a part of the list
-part-is : (n : ℕ) (s : List ℕ) (p : ℕ) → p + n ≤ length s → take n (drop p s) ≡ bytesAt n s p
-unfolding bytesAt
-part-is zero s p h = refl
-part-is (suc n) s p h =
-    let l : p < length s = omega arith in
-    rw (drop-cons s p 0 l) (ap (λ (t : List ℕ). byteAt s p ∷ t) (ap (λ (q : ℕ). take n (drop q s)) (sym (add-one p)) ∙ part-is n s (p + 1) (omega arith)))
+use Rattle.model.proofs.ByteFacts.{part-is}
 
 abbrev pub slice : List ℕ → Part → List ℕ
 slice s r = take (r .to - r .from) (drop (r .from) s)

@@ -6,7 +6,7 @@ use mathlib.Core.List.{List, [], _∷_, _++_, List·Memᴰ, List·Memᴰ·not-ni
 use Prim.Native.Nat.{ℕ, zero, suc, _+_, _-_, _<_, _≤_}
 use native.Mathlib.Numerals.{sub-one, add-one}
 use native.Mathlib.Omega.{arith}
-use lib.Dec.{T, ltb}
+use lib.Dec.{ltb}
 use lib.ListN.{length, getD, length-map}
 use borrow.Author.Tests.{ltb-false}
 use Rattle.wire.proofs.Reading.{choose-true, choose-false}
@@ -15,6 +15,7 @@ use Rattle.model.specs.Lists.{any}
 use Rattle.model.specs.Readings.{itemEnd, endsBy}
 use Rattle.model.proofs.ReadFacts.{andThen-got, choose-yes}
 use Rattle.model.specs.Policies.{Item, contents, offsets, itemsFrom, listAt}
+pub use Rattle.model.proofs.Tests.{T-true}
 use Rattle.policy.specs.declared.slices.Step.{Step}
 use Rattle.policy.specs.declared.slices.Step.the-variants.{Next, Refused}
 use Rattle.policy.specs.Steps.{step, countRight}
@@ -70,14 +71,15 @@ module _ {A : Type 0} (f : A → Bool) (of : ℕ → A) (next : ℕ → ℕ) whe
   unfolding itemsAt
   any-none k p e = rw e
 
-  pub any-more : (k p y : ℕ) (z : Bool) → (k ≡ 0 → ⊥) → y ≡ next p → z ≡ (f (of p) || any f (contents (itemsAt of next (k - 1) y))) → z ≡ any f (contents (itemsAt of next k p))
+  pub any-more : (k p y : ℕ) (z : Bool) → (k ≡ 0 → ⊥) → y ≡ next p → z ≡ (f (of p) || any f (contents (itemsAt of next (k - 1) y)))
+      → z ≡ any f (contents (itemsAt of next k p))
   unfolding itemsAt
   any-more zero p y z h d e = absurd (h refl)
   any-more (suc k) p y z h d e = rw (sub-one, d) at e
 
 -- ---- the items of a list, read one after the other
 
-next-not : (n p e : ℕ) → Refused n p ≡ Next e → ⊥
+pub next-not : (n p e : ℕ) → Refused n p ≡ Next e → ⊥
 next-not n p e h = let z : _≡_ {A = ℕ} 0 1 = cc in omega arith
 
 module _ {A : Type 0} where
@@ -108,7 +110,8 @@ module _ {A : Type 0} (f : List A → ℕ → Reading A) where
   unfolding itemsFrom step
   items-none n is at e = rw e
 
-  pub items-refused : (n : ℕ) (is : List (Item A)) (at : ℕ) (y : Step) (a b : ℕ) → (n ≡ 0 → ⊥) → y ≡ step (f (contents is) at) → y ≡ Refused a b → Refused a b ≡ step (itemsFrom f n is at)
+  pub items-refused : (n : ℕ) (is : List (Item A)) (at : ℕ) (y : Step) (a b : ℕ) → (n ≡ 0 → ⊥) → y ≡ step (f (contents is) at) → y ≡ Refused a b
+      → Refused a b ≡ step (itemsFrom f n is at)
   unfolding itemsFrom step andThen
   items-refused zero is at y a b h d e = absurd (h refl)
   items-refused (suc n) is at y a b h d e = rw (step-refused (f (contents is) at) a b (sym d ∙ e))
@@ -122,20 +125,23 @@ module _ {A : Type 0} (s : List ℕ) (f : List A → ℕ → Reading A) (of : �
       rw h (ap (λ (is : List (Item A)). itemsFrom f n is e)
       (ap (λ (i : Item A). itemsAt of next k p ++ i ∷ []) (let v : x ≡ of at = reads .value _ at x e h in rw (v, d)) ∙ items-snoc of next k p))
 
-  pub items-next : (n k p at : ℕ) (y : Step) (e : ℕ) (z : Step) → (n ≡ 0 → ⊥) → endsBy next k p ≡ at → y ≡ step (f (contents (itemsAt of next k p)) at) → y ≡ Next e
+  pub items-next : (n k p at : ℕ) (y : Step) (e : ℕ) (z : Step) → (n ≡ 0 → ⊥) → endsBy next k p ≡ at → y ≡ step (f (contents (itemsAt of next k p)) at)
+      → y ≡ Next e
       → z ≡ step (itemsFrom f (n - 1) (itemsAt of next (k + 1) p) e) → z ≡ step (itemsFrom f n (itemsAt of next k p) at)
   items-next zero k p at y e z m h d g l = absurd (m refl)
   items-next (suc n) k p at y e z m h d g l =
       let r = step-next (f (contents (itemsAt of next k p)) at) e (sym d ∙ g) in
       (rw (sub-one, add-one) at l) ∙ ap step (sym (items-got n k p at (r .0) e (sym h) (r .1)))
 
-  pub next-ends : (k p at : ℕ) (y : Step) (e : ℕ) → endsBy next k p ≡ at → y ≡ step (f (contents (itemsAt of next k p)) at) → y ≡ Next e → endsBy next (k + 1) p ≡ e
+  pub next-ends : (k p at : ℕ) (y : Step) (e : ℕ) → endsBy next k p ≡ at → y ≡ step (f (contents (itemsAt of next k p)) at) → y ≡ Next e
+      → endsBy next (k + 1) p ≡ e
   next-ends k p at y e h d g =
       let r = step-next (f (contents (itemsAt of next k p)) at) e (sym d ∙ g) in
       rw (add-one) (ends-snoc next k p ∙ ap next h ∙ sym (reads .end _ at (r .0) e (r .1)))
 
   -- what was read is what stands there
-  items-all : (n k m p at : ℕ) (js : List (Item A)) (e : ℕ) → k + n ≡ m → at ≡ endsBy next k p → at ≤ length s → itemsFrom f n (itemsAt of next k p) at ≡ got js e
+  items-all : (n k m p at : ℕ) (js : List (Item A)) (e : ℕ) → k + n ≡ m → at ≡ endsBy next k p → at ≤ length s
+      → itemsFrom f n (itemsAt of next k p) at ≡ got js e
       → (js ≡ itemsAt of next m p) × (e ≤ length s)
   unfolding itemsFrom
   items-all zero k m p at js e c d l h =
@@ -146,7 +152,9 @@ module _ {A : Type 0} (s : List ℕ) (f : List A → ℕ → Reading A) (of : �
   items-all (suc n) k m p at js e c d l h =
       let r = andThen-got (f (contents (itemsAt of next k p)) at) _ js e h in
       let w = reads .end _ at (r .0) (r .1) (r .2) in
-      items-all n (suc k) m p (r .1) js e (omega arith) (w ∙ ap next d ∙ sym (ends-snoc next k p)) (reads .within _ at (r .0) (r .1) (r .2)) (sym (items-got n k p at (r .0) (r .1) d (r .2)) ∙ h)
+      let here = w ∙ ap next d ∙ sym (ends-snoc next k p) in
+      let within = reads .within _ at (r .0) (r .1) (r .2) in
+      items-all n (suc k) m p (r .1) js e (omega arith) here within (sym (items-got n k p at (r .0) (r .1) d (r .2)) ∙ h)
 
 -- ---- a list: its count, and its items
 
@@ -185,10 +193,6 @@ unfolding choose
 no-rest true x e = absurd (false≢true e)
 no-rest false x e = e
 
-pub T-true : (b : Bool) → T b → b ≡ true
-T-true true t = refl
-T-true false t = absurd t
-
 pub counted : (s : List ℕ) (lowest highest p : ℕ) → countRight s lowest highest p ≡ true → Counted s lowest highest p
 unfolding countRight
 counted s lowest highest p h =
@@ -198,7 +202,8 @@ counted s lowest highest p h =
     record { there = ltb-false _ _ a; least = ltb-false _ _ b; most = ltb-false _ _ c }
 
 module _ {A : Type 0} (s : List ℕ) (lowest highest : ℕ) (f : List A → ℕ → Reading A) (of : ℕ → A) (next : ℕ → ℕ) (reads : Reads s f of next) (p : ℕ) where
-  pub list-got : (js : List (Item A)) (e : ℕ) → listAt s lowest highest f p ≡ got js e → (js ≡ itemsAt of next (u16At s p) (p + 2)) × (e ≤ length s) × Counted s lowest highest p
+  pub list-got : (js : List (Item A)) (e : ℕ) → listAt s lowest highest f p ≡ got js e
+      → (js ≡ itemsAt of next (u16At s p) (p + 2)) × (e ≤ length s) × Counted s lowest highest p
   unfolding itemsAt endsBy
   list-got js e h =
       let r = choose-yes (countRight s lowest highest p) _ 3 p js e (sym (list-is s lowest highest f p) ∙ h) in
@@ -206,7 +211,8 @@ module _ {A : Type 0} (s : List ℕ) (lowest highest : ℕ) (f : List A → ℕ 
       let i = items-all s f of next reads (u16At s p) 0 (u16At s p) (p + 2) (p + 2) js e (omega arith) refl (c .there) (r .1) in
       (i .0, i .1, c)
 
-  pub list-next : (y : Step) (e : ℕ) → y ≡ step (listAt s lowest highest f p) → y ≡ Next e → listAt s lowest highest f p ≡ got (itemsAt of next (u16At s p) (p + 2)) e
+  pub list-next : (y : Step) (e : ℕ) → y ≡ step (listAt s lowest highest f p) → y ≡ Next e
+      → listAt s lowest highest f p ≡ got (itemsAt of next (u16At s p) (p + 2)) e
   list-next y e d h =
       let r = step-next (listAt s lowest highest f p) e (sym d ∙ h) in
       r .1 ∙ ap (λ (is : List (Item A)). got is e) (list-got (r .0) e (r .1) .0)
@@ -225,7 +231,8 @@ module _ {A : Type 0} (s : List ℕ) (f : List A → ℕ → Reading A) (of : �
       let r = andThen-got (f (contents is) at) _ js e h in
       subst (λ (q : ℕ). P (endsBy next j q)) (reads .end (contents is) at (r .0) (r .1) (r .2)) (items-right n _ (r .1) js e (r .3) j (omega arith))
 
-  pub list-right : (lowest highest p : ℕ) (js : List (Item A)) (e : ℕ) → listAt s lowest highest f p ≡ got js e → (j : ℕ) → j < u16At s p → P (endsBy next j (p + 2))
+  pub list-right : (lowest highest p : ℕ) (js : List (Item A)) (e : ℕ) → listAt s lowest highest f p ≡ got js e → (j : ℕ) → j < u16At s p
+      → P (endsBy next j (p + 2))
   list-right lowest highest p js e h =
       let r = choose-yes (countRight s lowest highest p) _ 3 p js e (sym (list-is s lowest highest f p) ∙ h) in
       items-right (u16At s p) [] (p + 2) js e (r .1)

@@ -13,7 +13,8 @@ use Rattle.model.specs.Bytes.{byteAt, u16At, choose, Reading, got, refused, and
 use Rattle.model.specs.Readings.{itemEnd, endsBy, constantAt, verbAt, assertionAt, assertionEnd}
 use Rattle.model.specs.Forms as forms
 use Rattle.model.specs.Forms.{ends, broken, noVerb, constantForm, verbForm, assertionForm}
-use Rattle.model.specs.Policies.{Item, contents, versionThere, lengthRight, headed, ended, itemsFrom, listAt, constantItem, verbItem, judged, assertionBy, assertionItem, Accepted, assertionsFrom, verbsFrom, constantsFrom, readPolicy}
+use Rattle.model.specs.Policies.{Item, contents, versionThere, lengthRight, headed, ended, itemsFrom, listAt, constantItem, verbItem, judged, assertionBy}
+use Rattle.model.specs.Policies.{assertionItem, Accepted, assertionsFrom, verbsFrom, constantsFrom, readPolicy}
 use Rattle.model.proofs.ReadFacts.{never, choose-yes, andThen-got}
 use Rattle.phrases.specs.Tables.{Tables}
 use Rattle.policy.specs.declared.slices.Step.{Step}
@@ -23,7 +24,8 @@ use Rattle.policy.specs.Steps.{step, thenStep, countRight, endedAt}
 use Rattle.policy.specs.Items.{startsAt, itemsAt, constantsAt, verbsAt, assertionsAt}
 use Rattle.policy.specs.Index.{held, kindTable, verbTable, indexOf, refusal, handedOut, kindsAt, signaturesAt, indexAt}
 use Rattle.policy.specs.Assertions.{itemBy, itemsBy, assertionFormBy, assertionsBy}
-use Rattle.policy.proofs.ListFacts.{Reads, Counted, counted, step-refused, step-next, list-is, list-got, list-right, items-length, items-starts, contents-each, T-true}
+use Rattle.policy.proofs.ListFacts.{Reads, Counted, counted, step-refused, step-next, list-is, list-got, list-right, items-length, items-starts}
+use Rattle.policy.proofs.ListFacts.{contents-each, T-true}
 use Rattle.policy.proofs.ItemFacts.{constant-reads, verb-reads, constant-right, verb-right}
 use Rattle.policy.proofs.TableFacts.{kinds-are, rows-are, constant-kind, Signed, verb-signed, verb-arity, tables}
 use Rattle.policy.proofs.AssertionFacts.{Shaped, shaped, item-is}
@@ -55,7 +57,8 @@ module _ (cs : List Constant) (vs : List Verb) (s : List ℕ) where
     within = λ b at x e h. assertion-got b at x e h .shape .within;
   }
 
-step-then : {A B : Type 0} (r : Reading A) (f : A → ℕ → Reading B) (g : ℕ → Step) → ((x : A) (e : ℕ) → g e ≡ step (f x e)) → thenStep (step r) g ≡ step (andThen r f)
+step-then : {A B : Type 0} (r : Reading A) (f : A → ℕ → Reading B) (g : ℕ → Step) → ((x : A) (e : ℕ) → g e ≡ step (f x e))
+    → thenStep (step r) g ≡ step (andThen r f)
 unfolding step thenStep andThen
 step-then (got x e) f g h = h x e
 step-then (refused n p) f g h = refl
@@ -69,7 +72,8 @@ ended-is : {A : Type 0} (s : List ℕ) (x : A) (p : ℕ) → endedAt s p ≡ ste
 unfolding endedAt ended
 ended-is s x p = step-choice (eqb p (length s)) x p
 
-list-then : {A B : Type 0} (b : Bool) (r : Reading A) (f : A → ℕ → Reading B) (p : ℕ) → choose b (step (andThen r f)) (Refused 3 p) ≡ step (andThen (choose b r (refused 3 p)) f)
+list-then : {A B : Type 0} (b : Bool) (r : Reading A) (f : A → ℕ → Reading B) (p : ℕ)
+    → choose b (step (andThen r f)) (Refused 3 p) ≡ step (andThen (choose b r (refused 3 p)) f)
 unfolding choose andThen step
 list-then true r f p = refl
 list-then false r f p = refl
@@ -78,7 +82,9 @@ module _ {cs : List Constant} {vs : List Verb} {ks sg : List ℕ} (X : Tables cs
   items-are : (n at : ℕ) (is : List (Item Assertion)) → itemsBy ks sg s n at ≡ step (itemsFrom (assertionItem cs vs s) n is at)
   unfolding itemsBy itemsFrom step
   items-are zero at is = refl
-  items-are (suc n) at is = ap (λ (y : Step). thenStep y (itemsBy ks sg s n)) (item-is X s at (contents is)) ∙ step-then _ _ _ (λ x e. items-are n e (is ++ record { at = at; of = x } ∷ []))
+  items-are (suc n) at is =
+      ap (λ (y : Step). thenStep y (itemsBy ks sg s n)) (item-is X s at (contents is))
+      ∙ step-then _ _ _ (λ x e. items-are n e (is ++ record { at = at; of = x } ∷ []))
 
 abbrev made : List (Item Constant) → List (Item Verb) → List (Item Assertion) → Accepted
 made cis vis A = record { constants = cis; verbs = vis; assertions = A }
@@ -90,7 +96,8 @@ module _ (s : List ℕ) (cis : List (Item Constant)) (vis : List (Item Verb)) {k
       ap (λ (y : Step). choose (countRight s 0 256 p) y (Refused 3 p))
       (ap (λ (y : Step). thenStep y (endedAt s)) (items-are X s (u16At s p) (p + 2) []) ∙ step-then _ _ _ (λ A e. ended-is s (made cis vis A) e))
       ∙ list-then (countRight s 0 256 p) _ _ p
-      ∙ ap (λ (r : Reading (List (Item Assertion))). step (andThen r (λ A e. ended s (made cis vis A) e))) (sym (list-is s 0 256 (assertionItem (contents cis) (contents vis) s) p))
+      ∙ ap (λ (r : Reading (List (Item Assertion))). step (andThen r (λ A e. ended s (made cis vis A) e)))
+      (sym (list-is s 0 256 (assertionItem (contents cis) (contents vis) s) p))
 
 -- ---- the tables of a policy whose constants and verbs are in order
 
@@ -109,7 +116,8 @@ module _ (s : List ℕ) (p : ℕ) (K : Constants s p) where
   constants-counted = list-got s 1 maxConstants (constantItem s) (constantAt s) (itemEnd s) (constant-reads s) 5 _ p K .2
 
   pub constants-right : (j : ℕ) → j < u16At s 5 → constantForm s (endsBy (itemEnd s) j 7) ≡ true
-  constants-right = list-right s (constantItem s) (constantAt s) (itemEnd s) (constant-reads s) (λ at. constantForm s at ≡ true) (constant-right s) 1 maxConstants 5 _ p K
+  constants-right =
+      list-right s (constantItem s) (constantAt s) (itemEnd s) (constant-reads s) (λ at. constantForm s at ≡ true) (constant-right s) 1 maxConstants 5 _ p K
 
   module _ (q : ℕ) (W : Verbs s p q) where
     pub verbs-within : q ≤ length s
@@ -124,7 +132,8 @@ module _ (s : List ℕ) (p : ℕ) (K : Constants s p) where
     signatures-are : signaturesAt s (u16At s p) (p + 2) ≡ verbTable (contents (verbsAt s (u16At s p) (p + 2)))
     signatures-are = rows-are s (u16At s p) (p + 2) (λ j l. verb-arity s _ (verbs-right j l))
 
-    pub read-tables : Tables (contents (constantsAt s (u16At s 5) 7)) (contents (verbsAt s (u16At s p) (p + 2))) (kindsAt s (u16At s 5) 7) (signaturesAt s (u16At s p) (p + 2))
+    pub read-tables : Tables (contents (constantsAt s (u16At s 5) 7)) (contents (verbsAt s (u16At s p) (p + 2)))
+        (kindsAt s (u16At s 5) 7) (signaturesAt s (u16At s p) (p + 2))
     read-tables =
         rw (kinds-are s (u16At s 5) 7, signatures-are)
         (tables _ _

@@ -1,6 +1,6 @@
 -- A walk along one chain finds an item that is alike exactly if there is one among all items before: items that are alike fall into one bucket.
 use mathlib.Core.Path.{_≡_, refl, sym, ap, subst, _∙_}
-use mathlib.Core.Bool.{Bool, true, false, _&&_, _||_, true≢false, false≢true}
+use mathlib.Core.Bool.{Bool, true, false, _||_, true≢false}
 use mathlib.Core.List.{List, [], _∷_, _++_, map}
 use Prim.Native.Nat.{ℕ, zero, suc, _+_, _-_, _%_, _≤_, _<_}
 use native.Mathlib.Numerals.{add-one, sub-one}
@@ -29,6 +29,8 @@ use Rattle.policy.specs.Steps.{step}
 use Rattle.policy.specs.Seeking.{constantBucket, verbBucket, newest, Listed, Walkable}
 use Rattle.policy.proofs.ListFacts.{ends-after, ends-snoc, item-up, items-snoc, step-next}
 use Rattle.policy.proofs.ItemFacts.{constant-right, verb-right}
+use Rattle.model.proofs.ByteFacts.{zeros}
+use Rattle.model.proofs.Tests.{and-true}
 
 -- ---- a walk, entry by entry
 
@@ -170,11 +172,6 @@ listed-none of next bucket p ats links zeros room = record {
   chained = nothing links buckets zeros room;
 }
 
-zeros : (n i : ℕ) → _≡_ {A = ℕ} (getD (replicate n 0) i 0) 0
-zeros zero i = refl
-zeros (suc n) zero = refl
-zeros (suc n) (suc i) = zeros n i
-
 -- in fresh arrays
 pub fresh : {A : Type 0} (of : ℕ → A) (next : ℕ → ℕ) (bucket : A → ℕ) (p m n : ℕ) → buckets < n → Listed of next bucket p 0 (replicate m 0) (replicate n 0)
 fresh of next bucket p m n l = listed-none of next bucket p (replicate m 0) (replicate n 0) (λ b h. zeros n b) (rw length-replicate l)
@@ -185,14 +182,10 @@ not-true : (b : Bool) → (b ≡ true → ⊥) → b ≡ false
 not-true true h = absurd (h refl)
 not-true false h = refl
 
-both-of : (a b : Bool) → (a && b) ≡ true → (a ≡ true) × (b ≡ true)
-both-of true b e = (refl, e)
-both-of false b e = absurd (false≢true e)
-
 constants-bucket : (c d : Constant) → alikeConstants c d ≡ true → constantBucket d ≡ constantBucket c
 constants-bucket c d e =
-    let k = both-of _ _ e in
-    let v = both-of _ _ (k .1) in
+    let k = and-true _ _ e in
+    let v = and-true _ _ (k .1) in
     let kind : d .kind ≡ c .kind = sym (eqb-true (c .kind) (d .kind) (k .0)) in
     let label : hashOf (d .label) ≡ hashOf (c .label) = sym (alike-hash (c .label) (d .label) (v .0)) in
     let number : d .number ≡ c .number = sym (eqb-true (c .number) (d .number) (v .1)) in

@@ -6,9 +6,9 @@ use mathlib.Core.List.{List, [], _∷_, _++_, map, List·Memᴰ, List·Memᴰ·h
 use Prim.Native.Nat.{ℕ, zero, suc, _+_, _-_, _*_, _≤_, _<_}
 use native.Mathlib.Omega.{arith}
 use native.Mathlib.Decide.{decLt}
-use lib.Dec.{T, eqb, leb, leb→le, eqb→eq}
+use lib.Dec.{eqb, leb, leb→le, eqb→eq}
 use lib.ListN.{length, getD, replicate, length-map, length-append, length-replicate, getD-replicate, List·getD-append, List·getD-eq-default, List·getD-map}
-use lib.Seq.{getD-append-add}
+use lib.Seq.{getD-append-add, take-at}
 use borrow.Author.Tests.{leb-true, eqb-true}
 use Rattle.wire.proofs.Reading.{both-first, both-second, choose-true, choose-false}
 use Rattle.model.specs.Limits.{principal, day, quantity}
@@ -24,13 +24,11 @@ use Rattle.phrases.specs.Tables.{Tables}
 use Rattle.policy.specs.Items.{startsAt, itemsAt, constantsAt, verbsAt}
 use Rattle.policy.specs.Index.{held, kindTable, rowOf, rowsOf, verbTable, kindOf, rowAt, kindsAt, signaturesAt}
 use Rattle.policy.proofs.ListFacts.{contents-length, contents-at}
+use Rattle.model.proofs.ByteFacts.{zeros, length-pad, bytes-length}
+use Rattle.model.proofs.Tests.{true-T}
+use lib.ListN.{take, length-append}
 
 -- ---- a table read past its numbers gives 0
-
-zeros : (n i : ℕ) → _≡_ {A = ℕ} (getD (replicate n 0) i 0) 0
-zeros zero i = refl
-zeros (suc n) zero = refl
-zeros (suc n) (suc i) = zeros n i
 
 over-zeros : (l : List ℕ) (n i : ℕ) → getD (l ++ replicate n 0) i 0 ≡ getD l i 0
 over-zeros [] n i = zeros n i
@@ -41,18 +39,20 @@ pub held-at : (n : ℕ) (l : List ℕ) (i : ℕ) → getD (held n l) i 0 ≡ get
 unfolding held
 held-at n l i = over-zeros l (n - length l) i
 
+pub held-front : (n : ℕ) (l : List ℕ) → take (length l) (held n l) ≡ l
+unfolding held
+held-front n l = take-at l (replicate (n - length l) 0) (length l) refl
+
+pub held-long : (n : ℕ) (l : List ℕ) → length l ≤ length (held n l)
+unfolding held
+held-long n l = omega (arith, length-append l (replicate (n - length l) 0))
+
 pad-at : (n : ℕ) (l : List ℕ) (i : ℕ) → getD (pad n l) i 0 ≡ getD l i 0
 pad-at zero l i = refl
 pad-at (suc n) [] zero = refl
 pad-at (suc n) [] (suc i) = pad-at n [] i
 pad-at (suc n) (x ∷ l) zero = refl
 pad-at (suc n) (x ∷ l) (suc i) = pad-at n l i
-
-pad-length : (n : ℕ) (l : List ℕ) → length l ≤ n → length (pad n l) ≡ n
-pad-length zero [] h = refl
-pad-length zero (x ∷ l) h = absurd (omega arith)
-pad-length (suc n) [] h = ap suc (pad-length n [] (omega arith))
-pad-length (suc n) (x ∷ l) h = ap suc (pad-length n l (omega arith))
 
 -- ---- the kind of each constant
 
@@ -88,9 +88,11 @@ rows-map : (s : List ℕ) (n p : ℕ) → ((j : ℕ) → j < n → byteAt s (end
     → each (startsAt (itemEnd s) n p) (rowAt s) ≡ each (map (λ (v : Verb). v .kinds) (contents (verbsAt s n p))) rowOf
 unfolding startsAt itemsAt verbAt rowAt endsBy
 rows-map s zero p h = refl
-rows-map s (suc n) p h = ap₂ (λ (x y : List ℕ). x ++ y) (row-is s p (byteAt s (p + 1)) (h 0 (omega arith))) (rows-map s n (itemEnd s p) (λ j l. h (suc j) (omega arith)))
+rows-map s (suc n) p h =
+    ap₂ (λ (x y : List ℕ). x ++ y) (row-is s p (byteAt s (p + 1)) (h 0 (omega arith))) (rows-map s n (itemEnd s p) (λ j l. h (suc j) (omega arith)))
 
-pub rows-are : (s : List ℕ) (n p : ℕ) → ((j : ℕ) → j < n → byteAt s (endsBy (itemEnd s) j p + 1) ≤ 3) → signaturesAt s n p ≡ verbTable (contents (verbsAt s n p))
+pub rows-are : (s : List ℕ) (n p : ℕ) → ((j : ℕ) → j < n → byteAt s (endsBy (itemEnd s) j p + 1) ≤ 3)
+    → signaturesAt s n p ≡ verbTable (contents (verbsAt s n p))
 unfolding signaturesAt verbTable rowsOf
 rows-are s n p h = ap (λ (l : List ℕ). held 260 (2 ∷ 1 ∷ 0 ∷ 0 ∷ l)) (rows-map s n p h)
 
@@ -99,7 +101,7 @@ abbrev Short : List (List ℕ) → Type 0
 Short rows = (r : List ℕ) → List·Memᴰ r rows → length r ≤ 3
 
 row-length : (r : List ℕ) → length r ≤ 3 → length (rowOf r) ≡ 4
-row-length r h = pad-length 4 (suc (length r) ∷ r) (omega arith)
+row-length r h = length-pad 4 (suc (length r) ∷ r) (omega arith)
 
 in-row : (rows : List (List ℕ)) → Short rows → (v j : ℕ) → v < length rows → j < 4 → getD (each rows rowOf) (4 * v + j) 0 ≡ getD (rowOf (getD rows v [])) j 0
 in-row [] h v j l k = absurd (omega arith)
@@ -123,14 +125,6 @@ past-rows (r ∷ rows) h (suc v) j l =
     ∙ past-rows rows (λ q m. h q (List·Memᴰ·tail m)) v j (omega arith)
 
 -- ---- what form has made sure of
-
-bytes-length : (n : ℕ) (s : List ℕ) (p : ℕ) → length (bytesAt n s p) ≡ n
-unfolding bytesAt
-bytes-length zero s p = refl
-bytes-length (suc n) s p = ap suc (bytes-length n s (p + 1))
-
-true-T : (b : Bool) → b ≡ true → T b
-true-T b e = subst T (sym e) tt
 
 or-low : (k : ℕ) → hasLabel k ≡ true → k ≤ 4
 or-low k h = ⊎-elim (λ t. let e = eqb→eq k 1 t in omega arith) (λ t. let e = eqb→eq k 2 t in omega arith) (or-of (eqb k 1) (eqb k 2) (true-T _ h))
@@ -192,7 +186,10 @@ module _ (cs : List Constant) (vs : List Verb) (low : (c : Constant) → List·M
       first e = rw e (omega arith, λ k n. let q : k ≡ 1 = List·Memᴰ·eq-of-singleton n in (omega arith, omega arith))
 
       later : List·Memᴰ r (map (λ (v : Verb). v .kinds) vs) → (length r ≤ 3) × ((k : ℕ) → List·Memᴰ k r → (1 ≤ k) × (k ≤ 4))
-      later n = let q = map-of vs n in let g = signed (q .0) (q .1) in subst (λ (r : List ℕ). (length r ≤ 3) × ((k : ℕ) → List·Memᴰ k r → (1 ≤ k) × (k ≤ 4))) (sym (q .2)) (g .few, g .known)
+      later n =
+          let q = map-of vs n in
+          let g = signed (q .0) (q .1) in
+          subst (λ (r : List ℕ). (length r ≤ 3) × ((k : ℕ) → List·Memᴰ k r → (1 ≤ k) × (k ≤ 4))) (sym (q .2)) (g .few, g .known)
 
   params-row : (v : ℕ) → paramKinds vs v ≡ getD rows v []
   params-row zero = refl
@@ -213,7 +210,9 @@ module _ (cs : List Constant) (vs : List Verb) (low : (c : Constant) → List·M
     where
       go : Dec (c < length cs) → kindAt cs c ≤ 4
       go (yes h) = low (getD cs c noConstant) (getD-in cs c noConstant h)
-      go (no h) = let e : getD cs c noConstant ≡ noConstant = List·getD-eq-default cs noConstant (omega arith) in subst (λ (d : Constant). d .kind ≤ 4) (sym e) (omega arith)
+      go (no h) =
+          let e : getD cs c noConstant ≡ noConstant = List·getD-eq-default cs noConstant (omega arith) in
+          subst (λ (d : Constant). d .kind ≤ 4) (sym e) (omega arith)
 
   row-signed : (v : ℕ) → v ≤ length vs → (length (paramKinds vs v) ≤ 3) × ((k : ℕ) → List·Memᴰ k (paramKinds vs v) → (1 ≤ k) × (k ≤ 4))
   row-signed v l = rw (params-row v) (rows-signed (getD rows v []) (getD-in rows v [] (let e = rows-length in omega arith)))
@@ -222,7 +221,9 @@ module _ (cs : List Constant) (vs : List Verb) (low : (c : Constant) → List·M
   unfolding verbTable rowsOf
   past v l =
       let e : 4 * v ≡ 4 * v + 0 = omega arith in
-      ap (byteAt (held 260 (each rows rowOf))) e ∙ held-at 260 (each rows rowOf) (4 * v + 0) ∙ past-rows rows (λ r m. rows-signed r m .0) v 0 (let d = rows-length in omega arith)
+      ap (byteAt (held 260 (each rows rowOf))) e
+      ∙ held-at 260 (each rows rowOf) (4 * v + 0)
+      ∙ past-rows rows (λ r m. rows-signed r m .0) v 0 (let d = rows-length in omega arith)
 
   params : (v i : ℕ) → v ≤ length vs → i < length (paramKinds vs v) → byteAt (verbTable vs) (4 * v + 1 + i) ≡ getD (paramKinds vs v) i 0
   params v i l k =

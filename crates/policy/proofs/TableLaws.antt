@@ -58,20 +58,26 @@ module _ (g : ℕ → ℕ) where
   left-starts t n i at y h d = rw (one-less n i h, add-one, d)
 
   -- a number of each item
-  pub left-map : (f : ℕ → ℕ) (t : List ℕ) (n i at y x : ℕ) → i < n → y ≡ g at → x ≡ f at → sets t i (map f (startsAt g (n - i) at)) ≡ sets (set t i x) (i + 1) (map f (startsAt g (n - (i + 1)) y))
+  pub left-map : (f : ℕ → ℕ) (t : List ℕ) (n i at y x : ℕ) → i < n → y ≡ g at → x ≡ f at
+      → sets t i (map f (startsAt g (n - i) at)) ≡ sets (set t i x) (i + 1) (map f (startsAt g (n - (i + 1)) y))
   unfolding startsAt
   left-map f t n i at y x h d e = rw (one-less n i h, add-one, d, e)
 
   -- four numbers of each item
+  abbrev row-set : List ℕ → ℕ → List ℕ → List ℕ
+  row-set t j r = set (set (set (set t (4 * j + 4) (getD r 0 0)) (4 * j + 5) (getD r 1 0)) (4 * j + 6) (getD r 2 0)) (4 * j + 7) (getD r 3 0)
+
   pub left-rows : (f : ℕ → List ℕ) (t : List ℕ) (n i at y : ℕ) (r : List ℕ) → i < n → y ≡ g at → r ≡ f at → length r ≡ 4
-      → sets t (4 * i + 4) (each (startsAt g (n - i) at) f)
-      ≡ sets (set (set (set (set t (4 * i + 4) (getD r 0 0)) (4 * i + 5) (getD r 1 0)) (4 * i + 6) (getD r 2 0)) (4 * i + 7) (getD r 3 0)) (4 * (i + 1) + 4) (each (startsAt g (n - (i + 1)) y) f)
+      → sets t (4 * i + 4) (each (startsAt g (n - i) at) f) ≡ sets (row-set t i r) (4 * (i + 1) + 4) (each (startsAt g (n - (i + 1)) y) f)
   unfolding startsAt
   left-rows f t n i at y r h d e l =
+      let rest = each (startsAt g (n - (i + 1)) (g at)) f in
+      let next = 4 * (i + 1) + 4 in
       ap (λ (k : ℕ). sets t (4 * i + 4) (each (startsAt g k at) f)) (one-less n i h)
-      ∙ ap (λ (q : List ℕ). sets t (4 * i + 4) (q ++ each (startsAt g (n - (i + 1)) (g at)) f)) (sym e ∙ four r l)
-      ∙ sets-four t (each (startsAt g (n - (i + 1)) (g at)) f) (4 * i + 4) (4 * i + 5) (4 * i + 6) (4 * i + 7) (4 * (i + 1) + 4) (getD r 0 0) (getD r 1 0) (getD r 2 0) (getD r 3 0) (omega arith) (omega arith) (omega arith) (omega arith)
-      ∙ ap (λ (z : ℕ). sets (set (set (set (set t (4 * i + 4) (getD r 0 0)) (4 * i + 5) (getD r 1 0)) (4 * i + 6) (getD r 2 0)) (4 * i + 7) (getD r 3 0)) (4 * (i + 1) + 4) (each (startsAt g (n - (i + 1)) z) f)) (sym d)
+      ∙ ap (λ (q : List ℕ). sets t (4 * i + 4) (q ++ rest)) (sym e ∙ four r l)
+      ∙ sets-four t rest (4 * i + 4) (4 * i + 5) (4 * i + 6) (4 * i + 7) next (getD r 0 0) (getD r 1 0) (getD r 2 0) (getD r 3 0)
+      (omega arith) (omega arith) (omega arith) (omega arith)
+      ∙ ap (λ (z : ℕ). sets (row-set t i r) next (each (startsAt g (n - (i + 1)) z) f)) (sym d)
 
   -- everything is left
   pub all-starts : (t : List ℕ) (n at : ℕ) → sets t 0 (startsAt g (n - 0) at) ≡ sets t 0 (startsAt g n at)
@@ -98,10 +104,6 @@ module _ (g : ℕ → ℕ) where
   done-rows f t n i j at h = rw (none-left n i at h)
 
 -- ---- the code's own tables
-
-pub item-next : (s : List ℕ) (at r : ℕ) → r ≡ byteAt s at → at + 1 + r ≡ itemEnd s at
-unfolding itemEnd
-item-next s at r e = rw e
 
 pub assertion-next : (s : List ℕ) (at r : ℕ) → r ≡ u16At s at → at + 2 + r ≡ assertionEnd s at
 unfolding assertionEnd

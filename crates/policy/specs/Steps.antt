@@ -8,10 +8,6 @@ use Rattle.model.specs.Bytes.{u16At, choose, Reading, got, refused}
 use Rattle.policy.specs.declared.slices.Step.{Step}
 use Rattle.policy.specs.declared.slices.Step.the-variants.{Next, Refused}
 
--- a slice whose length field is right is shorter: a budget for offsets, and no limit
-abbrev pub longest : ℕ
-longest = 8589934592
-
 unfoldable pub step : {A : Type 0} → Reading A → Step
 step (got x e) = Next e
 step (refused n p) = Refused n p

@@ -10,7 +10,7 @@ ghost use Rattle.model.specs.Bytes.{byteAt, bytesAt};
 ghost use Rattle.wire.specs.Budget.{farthest};
 ghost use Rattle.model.specs.Limits.{maxConstants};
 ghost use Rattle.model.specs.Lists.{any, sameList};
-ghost use Rattle.model.specs.Readings.{itemEnd, hasLabel, constantAt, endsBy};
+ghost use Rattle.model.specs.Readings.{itemEnd, constantAt, endsBy};
 ghost use Rattle.model.specs.Forms.{itemThere, numberForm, valueForm, constantForm};
 ghost use Rattle.model.specs.Policies.{contents, itemsFrom, listAt, alikeConstants, constantItem};
 ghost use Rattle.policy.specs.Steps.{step};
@@ -27,13 +27,6 @@ pub fn item_there(s: &[u8], at: usize) -> bool
         return at + 1 + wire::byte(s, at) <= s.len();
     }
     false
-}
-
-// "Kind 1 principal and 2 thing: label"
-pub fn has_label(kind: usize) -> bool
-    ensures { λ r. ⌜ r ≡ hasLabel kind ⌝ }
-{
-    kind == limits::PRINCIPAL || kind == limits::THING
 }
 
 // "Kind 3 day: .. 0 to 36,524. Kind 4 quantity: .. any value."
@@ -53,7 +46,7 @@ fn value_form(s: &[u8], at: usize) -> bool
     ensures { λ r. ⌜ r ≡ valueForm (now (s .entry)) at ⌝ }
 {
     let n = wire::byte(s, at);
-    if has_label(wire::byte(s, at + 1)) {
+    if labels::has_label(wire::byte(s, at + 1)) {
         return wire::label_form(s, at + 2, n - 1);
     }
     if n == 5 {
@@ -94,7 +87,7 @@ fn alike(s: &[u8], q: usize, p: usize) -> bool
 {
     let kind = wire::byte(s, q + 1);
     if kind == wire::byte(s, p + 1) {
-        if has_label(kind) {
+        if labels::has_label(kind) {
             return same_label(s, q, p);
         }
         return wire::u32_at(s, q + 2) == wire::u32_at(s, p + 2);
@@ -107,7 +100,7 @@ fn bucket(s: &[u8], at: usize) -> usize
     requires { ⌜ constantForm (now s) at ≡ true ⌝ }
     ensures { λ r. ⌜ (r ≡ constantBucket (constantAt (now (s .entry)) at)) × (r < buckets) ⌝ }
 {
-    if has_label(wire::byte(s, at + 1)) {
+    if labels::has_label(wire::byte(s, at + 1)) {
         return labels::hash(s, at + 2, wire::byte(s, at) - 1);
     }
     wire::u32_at(s, at + 2) % labels::BUCKETS

@@ -7,7 +7,7 @@ ghost use Rattle.model.specs.Bytes.{u16At, got};
 ghost use Rattle.model.specs.Limits.{maxConstants, maxVerbs, maxAssertions};
 ghost use Rattle.model.specs.Policies.{listAt, constantItem, verbItem, assertionsFrom, verbsFrom, constantsFrom, readPolicy};
 ghost use Rattle.policy.specs.Items.{constantsAt, verbsAt};
-ghost use Rattle.policy.specs.Steps.{longest};
+ghost use Rattle.wire.specs.Budget.{longest};
 ghost use Rattle.policy.specs.Index.{refusal, indexAt, handedOut, labelOf, labelPart};
 
 pub mod assertions;
@@ -150,7 +150,7 @@ fn label_part(s: &[u8], constant: usize) -> Part
     let x = read(s);
     if constant < x.constants {
         let kind = x.kinds[constant];
-        if constants::has_label(kind as usize) {
+        if labels::has_label(kind as usize) {
             let at = x.constant_at[constant];
             return Part {
                 from: at + 2,

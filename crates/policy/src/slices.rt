@@ -4,8 +4,8 @@ ghost use mathlib.Core.Bool.{true};
 ghost use Prim.Native.Nat.{_+_, _≤_};
 ghost use lib.ListN.{length};
 ghost use Rattle.model.specs.Policies.{versionThere, lengthRight};
-ghost use Rattle.wire.specs.Budget.{farthest};
-ghost use Rattle.policy.specs.Steps.{longest, countRight, endedAt};
+ghost use Rattle.wire.specs.Budget.{farthest, longest};
+ghost use Rattle.policy.specs.Steps.{countRight, endedAt};
 
 // Where reading goes on, or a refusal's number and place.
 pub enum Step {

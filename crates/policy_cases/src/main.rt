@@ -1,4 +1,5 @@
-// Reads policies from a file, each led by its length in 2 bytes, and prints what the reader answers: the counts of constants, verbs and assertions, or a refusal's number and place.
+// Reads policies from a file, each led by its length in 2 bytes, and prints what the reader answers: the counts of constants, verbs and assertions,
+// or a refusal's number and place.
 use libc::STDOUT_FILENO;
 use policy::Answer;
 

@@ -1,4 +1,6 @@
-pub mod Laws
+pub mod Joining
+pub mod Ones
+pub mod Linking
 pub mod Found
 pub mod Meaning
 pub mod Counting

@@ -25,7 +25,8 @@ use Rattle.request.proofs.SafeLaws.{set-at, member-append}
 -- constant p is of a kind other than 0
 later : (k p n : ℕ) (cs : List Constant) → p < n → member p (ofKind k n cs) ≡ false
 later k p n [] h = refl
-later k p n (c ∷ cs) h = member-append p (only (eqb k (c .kind)) n) (ofKind k (suc n) cs) ∙ ap₂ _||_ (single (eqb k (c .kind))) (later k p (suc n) cs (omega arith))
+later k p n (c ∷ cs) h =
+    member-append p (only (eqb k (c .kind)) n) (ofKind k (suc n) cs) ∙ ap₂ _||_ (single (eqb k (c .kind))) (later k p (suc n) cs (omega arith))
   where
     single : (b : Bool) → member p (only b n) ≡ false
     single true = ap (λ (x : Bool). x || false) (ne-eqb p n (λ e. omega arith))
@@ -42,7 +43,8 @@ kind-member k (c ∷ cs) n zero h =
     single false = refl
 kind-member k (c ∷ cs) n (suc i) h =
     member-append (n + suc i) (only (eqb k (c .kind)) n) (ofKind k (suc n) cs)
-    ∙ ap₂ _||_ (single (eqb k (c .kind))) (ap (λ (p : ℕ). member p (ofKind k (suc n) cs)) (let q : n + suc i ≡ suc n + i = omega arith in q) ∙ kind-member k cs (suc n) i h)
+    ∙ ap₂ _||_ (single (eqb k (c .kind)))
+    (ap (λ (p : ℕ). member p (ofKind k (suc n) cs)) (let q : n + suc i ≡ suc n + i = omega arith in q) ∙ kind-member k cs (suc n) i h)
   where
     single : (b : Bool) → member (n + suc i) (only b n) ≡ false
     single true = ap (λ (x : Bool). x || false) (ne-eqb (n + suc i) n (λ e. omega arith))
@@ -54,7 +56,8 @@ kind-by (k ∷ ks) zero = refl
 kind-by (k ∷ ks) (suc i) = kind-by ks i
 
 -- the same constants are principals
-same-principals : (cs : List Constant) (ks : List ℕ) → ((c : ℕ) → getD ks c 0 ≡ kindAt cs c) → (p : ℕ) → member p (ofKind principal 0 (constantsBy ks)) ≡ member p (ofKind principal 0 cs)
+same-principals : (cs : List Constant) (ks : List ℕ) → ((c : ℕ) → getD ks c 0 ≡ kindAt cs c) → (p : ℕ)
+    → member p (ofKind principal 0 (constantsBy ks)) ≡ member p (ofKind principal 0 cs)
 same-principals cs ks h p =
     from-first (constantsBy ks) p ∙ ap (eqb principal) (kind-by ks p ∙ h p) ∙ sym (from-first cs p)
   where
@@ -79,7 +82,9 @@ module _ (U W : World) (h : (p : ℕ) → member p (ofKind principal 0 (U .const
     issuers-all-same : (ns : Nodes) → member p (issuersAll ns U) ≡ member p (issuersAll ns W)
     issuers-all-same end = refl
     issuers-all-same (more n ns) =
-        member-append p (issuers n U) (issuersAll ns U) ∙ ap₂ _||_ (issuers-same n) (issuers-all-same ns) ∙ sym (member-append p (issuers n W) (issuersAll ns W))
+        member-append p (issuers n U) (issuersAll ns U)
+        ∙ ap₂ _||_ (issuers-same n) (issuers-all-same ns)
+        ∙ sym (member-append p (issuers n W) (issuersAll ns W))
 
 abbrev zeros : ℕ → List ℕ
 zeros n = replicate n 0
@@ -90,10 +95,12 @@ zeros-at (suc n) zero = refl
 zeros-at (suc n) (suc v) = zeros-at n v
 
 -- THE LAW
-pub issuers-are : (ks sg s z : List ℕ) → z ≡ marked (issuers (treeIn sg s maxDepth firstNodeAt) (worldBy ks)) (zeros 255) → (W : World) → Tables (W .constants) (W .verbs) ks sg
+pub issuers-are : (ks sg s z : List ℕ) → z ≡ marked (issuers (treeIn sg s maxDepth firstNodeAt) (worldBy ks)) (zeros 255) → (W : World)
+    → Tables (W .constants) (W .verbs) ks sg
     → (p : ℕ) → p < 255 → getD z p 0 ≡ cond (member p (issuers (nodeAt (W .verbs) s maxDepth firstNodeAt) W)) 1 0
 issuers-are ks sg s z e W X p h =
     ap (λ (l : List ℕ). getD l p 0) e ∙ set-at (issuers (treeIn sg s maxDepth firstNodeAt) (worldBy ks)) (zeros 255) p (rw (length-replicate {A = ℕ} 255 0) h)
     ∙ ap₂ (λ (b : Bool) (x : ℕ). cond b 1 x)
-    (ap (λ (n : Node). member p (issuers n (worldBy ks))) (tree-is X s maxDepth firstNodeAt) ∙ issuers-same (worldBy ks) W (same-principals (W .constants) ks (X .kinds)) p (nodeAt (W .verbs) s maxDepth firstNodeAt))
+    (ap (λ (n : Node). member p (issuers n (worldBy ks))) (tree-is X s maxDepth firstNodeAt)
+    ∙ issuers-same (worldBy ks) W (same-principals (W .constants) ks (X .kinds)) p (nodeAt (W .verbs) s maxDepth firstNodeAt))
     (zeros-at 255 p)

@@ -23,7 +23,8 @@ use Rattle.request.specs.Tree.{shapeAt, endIn, treeIn}
 use Rattle.request.specs.Issuing.{constantsBy}
 use Rattle.request.specs.declared.tree.Shape.{Shape}
 use Rattle.request.specs.declared.tree.Shape.the-variants.{Says, Test, All, Any, Not, Exists, Nothing}
-use Rattle.request.proofs.TreeSteps.{nodes-none, nodes-more, tree-deep, tree-past, tree-says, tree-test, tree-all, tree-any, tree-not, tree-exists, tree-nothing}
+use Rattle.request.proofs.TreeSteps.{nodes-none, nodes-more, tree-deep, tree-past, tree-says, tree-test, tree-all, tree-any, tree-not, tree-exists}
+use Rattle.request.proofs.TreeSteps.{tree-nothing}
 
 -- past the marks
 pub set-past : (m : List ℕ) (v x : ℕ) → length m ≡ 255 → 255 ≤ v → m ≡ set m v x
@@ -56,11 +57,15 @@ module _ (W : World) (x : ℕ) (m z : List ℕ) where
 
   pub issuer-constant : (x ≡ 0x4000 → ⊥) → x < 0x8000 → z ≡ set m x 1 → z ≡ marked (joining W (exprOf x)) m
   unfolding exprOf
-  issuer-constant e l h = rw (choose-false today (choose (ltb x 0x8000) (con x) (var (x - 0x8000))) (ne-eqb x 0x4000 e), choose-true (con x) (var (x - 0x8000)) (lt-ltb x 0x8000 l)) h
+  issuer-constant e l h =
+      let other = choose (ltb x 0x8000) (con x) (var (x - 0x8000)) in
+      rw (choose-false today other (ne-eqb x 0x4000 e), choose-true (con x) (var (x - 0x8000)) (lt-ltb x 0x8000 l)) h
 
   pub issuer-variable : (x ≡ 0x4000 → ⊥) → 0x8000 ≤ x → z ≡ marked (ofKind principal 0 (W .constants)) m → z ≡ marked (joining W (exprOf x)) m
   unfolding exprOf
-  issuer-variable e l h = rw (choose-false today (choose (ltb x 0x8000) (con x) (var (x - 0x8000))) (ne-eqb x 0x4000 e), choose-false (con x) (var (x - 0x8000)) (le-ltb x 0x8000 l)) h
+  issuer-variable e l h =
+      let other = choose (ltb x 0x8000) (con x) (var (x - 0x8000)) in
+      rw (choose-false today other (ne-eqb x 0x4000 e), choose-false (con x) (var (x - 0x8000)) (le-ltb x 0x8000 l)) h
 
 -- ---- nodes
 
@@ -101,7 +106,8 @@ module _ (W : World) (sg s : List ℕ) where
     pub issuers-none : n ≡ 0 → m ≡ marked (issuersAll (nodesIn d n at) W) m
     issuers-none e = rw (nodes-none (treeIn sg s d) (endIn sg s d) n at e)
 
-    pub issuers-more : (u z : List ℕ) (p : ℕ) → (n ≡ 0 → ⊥) → u ≡ marked (issuers (treeIn sg s d at) W) m → p ≡ endIn sg s d at → z ≡ marked (issuersAll (nodesIn d (n - 1) p) W) u
+    pub issuers-more : (u z : List ℕ) (p : ℕ) → (n ≡ 0 → ⊥) → u ≡ marked (issuers (treeIn sg s d at) W) m → p ≡ endIn sg s d at
+        → z ≡ marked (issuersAll (nodesIn d (n - 1) p) W) u
         → z ≡ marked (issuersAll (nodesIn d n at) W) m
     issuers-more u z p x a e h =
         rw (nodes-more (treeIn sg s d) (endIn sg s d) n at p x e)

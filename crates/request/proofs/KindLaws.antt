@@ -1,4 +1,4 @@
--- In a safe request every variable that is used has a place in a fact, so its cell stands for its kind.
+-- In a safe request every variable that is used has a place in a fact, T-true its cell stands for its kind.
 use mathlib.Core.Path.{_≡_, refl, sym, _∙_, ap, subst}
 use mathlib.Core.Logic.{_⊎_, inl, inr, ⊎-elim}
 use mathlib.Core.Bool.{Bool, true, false, cond, not}
@@ -20,6 +20,8 @@ use Rattle.model.specs.Safety.{provided, onward, known, knownAll, knownAny, bin
 use Rattle.model.specs.Records.{Arity}
 use Rattle.model.proofs.ListFacts.{all-of, each-of, each-in, keep-of, keep-in, member-of, member-in}
 use Rattle.model.proofs.CheckedNodes.{Some, Sound, SoundAll}
+use Rattle.model.proofs.KindFacts.{isVar-of}
+use Rattle.model.proofs.Tests.{T-true}
 
 -- ---- places
 
@@ -244,32 +246,23 @@ module _ (vs : List Verb) where
 
 -- ---- the kind of a variable that has a place, and of one that has none
 
-var-is : (v : ℕ) (e : Expr) → T (isVar v e) → e ≡ var v
-var-is v (con c) t = absurd t
-var-is v (var w) t = ap var (sym (eqb→eq v w t))
-var-is v today t = absurd t
-
 pub kind-none : (ps : List (ℕ × Expr)) (v : ℕ) → ((k : ℕ) → List·Memᴰ (k, var v) ps → ⊥) → kindOf ps v ≡ 0
 kind-none [] v h = refl
 kind-none (p ∷ ps) v h = go (isVar v (p .1)) refl (kind-none ps v (λ k m. h k (List·Memᴰ·tail m)))
   where
     go : (b : Bool) → isVar v (p .1) ≡ b → kindOf ps v ≡ 0 → cond b (p .0) (kindOf ps v) ≡ 0
-    go true e ih = absurd (h (p .0) (List·Memᴰ·head (ap (λ (x : Expr). (p .0, x)) (sym (var-is v (p .1) (subst T (sym e) tt))))))
+    go true e ih = absurd (h (p .0) (List·Memᴰ·head (ap (λ (x : Expr). (p .0, x)) (sym (isVar-of v (p .1) (subst T (sym e) tt))))))
     go false e ih = ih
 
 pub kind-some : (ps : List (ℕ × Expr)) (v k : ℕ) → ((p : ℕ × Expr) → List·Memᴰ p ps → 1 ≤ p .0) → List·Memᴰ (k, var v) ps → kindOf ps v ≡ 0 → ⊥
 kind-some [] v k h m = absurd (List·Memᴰ·not-nil m)
 kind-some (p ∷ ps) v k h m = go (isVar v (p .1)) refl (kind-some ps v k (λ q n. h q (List·Memᴰ·tail n)))
   where
-    so : (b : Bool) → T b → b ≡ true
-    so true t = refl
-    so false t = absurd t
-
     go : (b : Bool) → isVar v (p .1) ≡ b → (List·Memᴰ (k, var v) ps → kindOf ps v ≡ 0 → ⊥) → cond b (p .0) (kindOf ps v) ≡ 0 → ⊥
     go true e ih z = let l = h p (List·Memᴰ·head refl) in omega arith
     go false e ih z =
         ⊎-elim
-        (λ q. let w : isVar v (p .1) ≡ true = ap (λ (x : ℕ × Expr). isVar v (x .1)) (sym q) ∙ so (eqb v v) (eqb-refl v) in let o : _≡_ {A = ℕ} 0 1 = cc in
+        (λ q. let w : isVar v (p .1) ≡ true = ap (λ (x : ℕ × Expr). isVar v (x .1)) (sym q) ∙ T-true (eqb v v) (eqb-refl v) in let o : _≡_ {A = ℕ} 0 1 = cc in
         omega arith)
         (λ n. ih n z)
         (List·Memᴰ·cases-cons m)

@@ -32,7 +32,8 @@ module _ (f : ℕ → List ℕ → Got) (n at : ℕ) (t : List ℕ) where
   unfolding readsBy
   reads-none z e h = rw e h
 
-pub reads-more : (f : ℕ → List ℕ → Got) (n at : ℕ) (t : List ℕ) (y z : Got) → (n ≡ 0 → ⊥) → y ≡ f at t → y .no ≡ 0 → z ≡ readsBy f (n - 1) (y .at) (y .of) → z ≡ readsBy f n at t
+pub reads-more : (f : ℕ → List ℕ → Got) (n at : ℕ) (t : List ℕ) (y z : Got) → (n ≡ 0 → ⊥) → y ≡ f at t → y .no ≡ 0 → z ≡ readsBy f (n - 1) (y .at) (y .of)
+    → z ≡ readsBy f n at t
 unfolding readsBy
 reads-more f zero at t y z h d e g = absurd (h refl)
 reads-more f (suc n) at t y z h d e g = then-next (f at t) y (readsBy f n) z d e (rw sub-one at g)
@@ -100,7 +101,8 @@ module _ (ks sg s : List ℕ) where
   read-past zero at t z n l h = absurd (n refl)
   read-past (suc d) at t z n l h = on-yes _ _ _ _ (le-leb (length s) at l) h
 
-  pub read-broken : (d at : ℕ) (t : List ℕ) (z : Got) → (d ≡ 0 → ⊥) → at < length s → ownForm s (shapeAt s at) at ≡ false → z ≡ stop 3 at t → z ≡ readIn ks sg s d at t
+  pub read-broken : (d at : ℕ) (t : List ℕ) (z : Got) → (d ≡ 0 → ⊥) → at < length s → ownForm s (shapeAt s at) at ≡ false → z ≡ stop 3 at t
+      → z ≡ readIn ks sg s d at t
   unfolding readIn
   read-broken zero at t z n l o h = absurd (n refl)
   read-broken (suc d) at t z n l o h = on-no _ _ _ _ (lt-leb (length s) at l) (on-no _ _ _ _ o h)
@@ -111,7 +113,8 @@ module _ (ks sg s : List ℕ) where
   read-as zero at t k y z n l o e g h = absurd (n refl)
   read-as (suc d) at t k y z n l o e g h = on-no _ _ _ _ (lt-leb (length s) at l) (on-yes _ _ _ _ o (rw (← e, g) (rw sub-one at h)))
 
-  module _ (d at : ℕ) (t : List ℕ) (y : Shape) (z : Got) (n : d ≡ 0 → ⊥) (l : at < length s) (o : ownForm s (shapeAt s at) at ≡ true) (e : y ≡ shapeAt s at) where
+  module _ (d at : ℕ) (t : List ℕ) (y : Shape) (z : Got) (n : d ≡ 0 → ⊥) (l : at < length s) (o : ownForm s (shapeAt s at) at ≡ true)
+      (e : y ≡ shapeAt s at) where
     pub read-says : y ≡ Says → z ≡ saysIn ks sg s at t → z ≡ readIn ks sg s d at t
     unfolding readOf
     read-says g h = read-as d at t Says y z n l o e g h

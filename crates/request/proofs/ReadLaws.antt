@@ -2,7 +2,8 @@
 use mathlib.Core.Path.{_≡_, refl, sym, _∙_, ap, subst}
 use mathlib.Core.Logic.{_↔_, ⊎-elim}
 use mathlib.Core.Bool.{Bool, true, false}
-use mathlib.Core.List.{List, [], _∷_, _++_, append-assoc, map, map-append, List·Memᴰ·append-cases, List·Memᴰ·not-nil, List·Memᴰ·eq-of-singleton, List·Memᴰ·cases-cons}
+use mathlib.Core.List.{List, [], _∷_, _++_, append-assoc, map, map-append, List·Memᴰ·append-cases, List·Memᴰ·not-nil, List·Memᴰ·eq-of-singleton}
+use mathlib.Core.List.{List·Memᴰ·cases-cons}
 use Prim.Native.Nat.{ℕ, zero, suc, _+_}
 use native.Mathlib.Omega.{arith}
 use lib.ListN.{length}
@@ -56,8 +57,15 @@ module _ (cs : List Constant) where
       let e = meets-append κ pE tE in
       let mp : map (askPlace cs) (D .places ++ E .places) ≡ pD ++ pE = map-append (askPlace cs) (D .places) (E .places) in
       let mt : each (D .tests ++ E .tests) (askTest cs) ≡ tD ++ tE = each-append (askTest cs) (D .tests) (E .tests) in (
-        λ h. let w = whole .0 h in let a = ps .0 (subst (MeetsAll κ) mp (w .0)) in let b = ts .0 (subst (MeetsAll κ) mt (w .1)) in (d .1 (a .0, b .0), e .1 (a .1, b .1)),
-        λ h. let a = d .0 (h .0) in let b = e .0 (h .1) in whole .1 (subst (MeetsAll κ) (sym mp) (ps .1 (a .0, b .0)), subst (MeetsAll κ) (sym mt) (ts .1 (a .1, b .1))),
+        λ h.
+            let w = whole .0 h in
+            let a = ps .0 (subst (MeetsAll κ) mp (w .0)) in
+            let b = ts .0 (subst (MeetsAll κ) mt (w .1)) in
+            (d .1 (a .0, b .0), e .1 (a .1, b .1)),
+        λ h.
+            let a = d .0 (h .0) in
+            let b = e .0 (h .1) in
+            whole .1 (subst (MeetsAll κ) (sym mp) (ps .1 (a .0, b .0)), subst (MeetsAll κ) (sym mt) (ts .1 (a .1, b .1))),
       )
 
   regular-joined : (D E : Demands) → Regular cs D → Regular cs E → Regular cs (joined D E)
@@ -94,7 +102,8 @@ module _ (cs : List Constant) where
   reads-choose false x y u v p q = q
 
   -- an item that asks E, after those that ask D
-  module _ (t : List ℕ) (D E : Demands) (qs : List Ask) (S : State t D) (same-asks : (κ : List ℕ) → MeetsAll κ qs ↔ MeetsAll κ (asksFor cs E)) (R : Regular cs E) where
+  module _ (t : List ℕ) (D E : Demands) (qs : List Ask) (S : State t D) (same-asks : (κ : List ℕ) → MeetsAll κ qs ↔ MeetsAll κ (asksFor cs E))
+      (R : Regular cs E) where
     fed-on : feed (S .asks ++ qs) nothing ≡ feed qs t
     unfolding fitThen
     fed-on = feed-append (S .asks) qs nothing ∙ ap (λ (f : Fit). fitThen f (feed qs)) (S .fed) ∙ choose-true (feed qs t) (good t) refl
@@ -121,7 +130,8 @@ module _ (cs : List Constant) where
         rw (choose-false (next e (feed qs t .of)) (stop 5 at (feed qs t .of)) o, choose-false (got (joined D E) e) (refused 5 at) (sym fits-on ∙ o))
         (five at (feed qs t .of)))
 
-  reads-then : (g : Got) (x : Reading Demands) (f : ℕ → List ℕ → Got) (h : Demands → ℕ → Reading Demands) → Reads g x → ((t : List ℕ) (D : Demands) (p : ℕ) → State t D → Reads (f p t) (h D p)) → Reads (gotThen g f) (andThen x h)
+  reads-then : (g : Got) (x : Reading Demands) (f : ℕ → List ℕ → Got) (h : Demands → ℕ → Reading Demands) → Reads g x
+      → ((t : List ℕ) (D : Demands) (p : ℕ) → State t D → Reads (f p t) (h D p)) → Reads (gotThen g f) (andThen x h)
   unfolding gotThen andThen
   reads-then g (got D e) f h r k = rw (choose-true (f (g .at) (g .of)) g (eq-eqb (g .no) 0 (r .0)), r .1) (k (g .of) D e (r .2))
   reads-then g (refused n p) f h r k = rw (choose-false (f (g .at) (g .of)) g (ne-eqb (g .no) 0 (λ z. r .2 (sym (r .0) ∙ z)))) r
@@ -129,7 +139,8 @@ module _ (cs : List Constant) where
   abbrev Agree : (ℕ → List ℕ → Got) → (Demands → ℕ → Reading Demands) → Type 0
   Agree f h = (at : ℕ) (t : List ℕ) (D : Demands) → State t D → Reads (f at t) (h D at)
 
-  reads-parts : (f : ℕ → List ℕ → Got) (h : Demands → ℕ → Reading Demands) → Agree f h → (n at : ℕ) (t : List ℕ) (D : Demands) → State t D → Reads (readsBy f n at t) (checkParts h n D at)
+  reads-parts : (f : ℕ → List ℕ → Got) (h : Demands → ℕ → Reading Demands) → Agree f h → (n at : ℕ) (t : List ℕ) (D : Demands) → State t D
+      → Reads (readsBy f n at t) (checkParts h n D at)
   unfolding readsBy checkParts
   reads-parts f h a zero at t D S = (refl, refl, S)
   reads-parts f h a (suc n) at t D S = reads-then (f at t) (h D at) (readsBy f n) (checkParts h n) (a at t D S) (λ u E p T. reads-parts f h a n p u E T)
@@ -158,7 +169,10 @@ module _ {cs : List Constant} {vs : List Verb} {ks sg : List ℕ} (X : Tables cs
   test-regular p o = record {
     constants = X .constantKinds;
     places = λ q m. absurd (List·Memᴰ·not-nil m);
-    tests = λ c m. rw (List·Memᴰ·eq-of-singleton m) (leb-true 1 (byteAt s p) (both-first (leb 1 (byteAt s p)) (leb (byteAt s p) 5) o), leb-true (byteAt s p) 5 (both-second (leb 1 (byteAt s p)) (leb (byteAt s p) 5) o));
+    tests = λ c m.
+        let n = byteAt s p in
+        rw (List·Memᴰ·eq-of-singleton m)
+        (leb-true 1 n (both-first (leb 1 n) (leb n 5) o), leb-true n 5 (both-second (leb 1 n) (leb n 5) o));
   }
 
   reads-says : (φ : forms.Form) (at : ℕ) (t : List ℕ) (D : Demands) → State cs t D → Reads cs (saysTo ks sg s (codeForm φ) at t) (checkSays cs vs s φ D at)
@@ -172,12 +186,15 @@ module _ {cs : List Constant} {vs : List Verb} {ks sg : List ℕ} (X : Tables cs
   reads-test at t D S =
       reads-choose cs (ltb (length s) (at + 6)) _ _ _ _ (three cs at t)
       (by-bool (forms.operatorForm s (at + 1))
-      (λ o.
-      rw (choose-true (fitsTo (feed (testAsks ks s (at + 1)) t) at (at + 6)) (stop 3 at t) o, choose-true (fitted cs vs s (joined D (testDemands (constraintAt s (at + 1)))) at (at + 6)) (refused 3 at) o)
+      (λ o. rw (choose-true fits (stop 3 at t) o, choose-true asked (refused 3 at) o)
       (reads-item cs t D _ (testAsks ks s (at + 1)) S (test-met (at + 1)) (test-regular (at + 1) o) vs s at (at + 6)))
-      (λ o.
-      rw (choose-false (fitsTo (feed (testAsks ks s (at + 1)) t) at (at + 6)) (stop 3 at t) o, choose-false (fitted cs vs s (joined D (testDemands (constraintAt s (at + 1)))) at (at + 6)) (refused 3 at) o)
-      (three cs at t)))
+      (λ o. rw (choose-false fits (stop 3 at t) o, choose-false asked (refused 3 at) o) (three cs at t)))
+    where
+      fits : Got
+      fits = fitsTo (feed (testAsks ks s (at + 1)) t) at (at + 6)
+
+      asked : Reading Demands
+      asked = fitted cs vs s (joined D (testDemands (constraintAt s (at + 1)))) at (at + 6)
 
   -- ---- nodes
 
@@ -198,7 +215,8 @@ module _ {cs : List Constant} {vs : List Verb} {ks sg : List ℕ} (X : Tables cs
   reads-node zero at t D S = three cs at t
   reads-node (suc d) at t D S =
       rw (sort-is (byteAt s at))
-      (reads-choose cs (leb (length s) at) _ _ _ _ (three cs at t) (reads-of (shapeAt s at) (readIn ks sg s d) (checkNode cs vs s d) (λ p u E T. reads-node d p u E T) at t D S))
+      (reads-choose cs (leb (length s) at) _ _ _ _ (three cs at t)
+      (reads-of (shapeAt s at) (readIn ks sg s d) (checkNode cs vs s d) (λ p u E T. reads-node d p u E T) at t D S))
 
   pub state-none : State cs nothing noDemands
   unfolding feed

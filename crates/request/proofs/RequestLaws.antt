@@ -25,7 +25,7 @@ use Rattle.model.specs.Readings.{nodeAt}
 use Rattle.model.specs.Policies.{versionThere, lengthRight, headed, ended}
 use Rattle.model.specs.Nodes.{checkNode, requestOf, safely, requestFrom, readRequest}
 use Rattle.model.proofs.ListFacts.{and-of, each-in, member-of, member-in}
-use Rattle.model.proofs.BindingFacts.{at-variable}
+use Rattle.model.proofs.BindingFacts.{at-variable, same-variables}
 use Rattle.wire.proofs.Reading.{choose-true, choose-false}
 use Rattle.kinds.specs.Cells.{nothing}
 use Rattle.kinds.specs.declared.Fit.{Fit}
@@ -43,9 +43,9 @@ use Rattle.request.proofs.ReadLaws.{State, state-fits, Reads, reads-nod
 use Rattle.model.proofs.CheckedNodes.{Sound, SoundAll, node-checked}
 use Rattle.request.proofs.SafeLaws.{Below, Small, SmallAll, mark-at, judged-is}
 use Rattle.request.proofs.KindLaws.{head-in, fact-in, place-used, told, kind-none, kind-some}
-use Rattle.request.proofs.RequestSteps.{eight}
 use Rattle.model.proofs.RequestReader.{request-is as plainly}
 use Rattle.model.specs.Nodes.{computedRequest}
+use Rattle.model.proofs.Tests.{true-T}
 
 -- ---- the variables of a sound node whose demands fit are among the eight
 
@@ -82,12 +82,6 @@ module _ (vs : List Verb) where
 
 -- ---- the kinds of variables
 
-same-map : (f g : ℕ → ℕ) → ((v : ℕ) → v < 8 → f v ≡ g v) → map f variables ≡ map g variables
-same-map f g h =
-    eight g (f 0) (f 1) (f 2) (f 3) (f 4) (f 5) (f 6) (f 7)
-    (h 0 (omega arith)) (h 1 (omega arith)) (h 2 (omega arith)) (h 3 (omega arith)) (h 4 (omega arith)) (h 5 (omega arith)) (h 6 (omega arith))
-    (h 7 (omega arith))
-
 frees-are : (vs : List ℕ) → marked vs none ≡ marks vs
 frees-are vs =
     ext-getD 0 (marked vs none) (marks vs) (marked-length vs none)
@@ -97,10 +91,6 @@ some-known : (o : Option (List ℕ)) (fs : List ℕ) → T (isSafe o fs) → (ws
 some-known option.none fs t = absurd t
 some-known (some ws) fs t = (ws, refl)
 
-T-of : (b : Bool) → b ≡ true → T b
-T-of true e = tt
-T-of false e = let z : _≡_ {A = ℕ} 0 1 = cc in absurd (omega arith)
-
 not-member : (v : ℕ) (l : List ℕ) → member v l ≡ false → List·Memᴰ v l → ⊥
 not-member v l e m = subst T e (member-in m)
 
@@ -108,7 +98,7 @@ module _ (cs : List Constant) (vs : List Verb) (n : Node) (t : List ℕ) (S : St
     (safe : safeRequest n ≡ true) where
   placed : (v : ℕ) → List·Memᴰ v (free n ++ binders n) → (k : ℕ) × List·Memᴰ (k, var v) (demandsIn n vs .places)
   placed v m =
-      let a = and-of (isSafe (known n []) (free n) && apart (binders n)) _ (T-of _ safe) in
+      let a = and-of (isSafe (known n []) (free n) && apart (binders n)) _ (true-T _ safe) in
       let b = and-of (isSafe (known n []) (free n)) (apart (binders n)) (a .0) in
       let k = some-known (known n []) (free n) (b .0) in
       let w = told vs n sound [] (k .0) (k .1) in
@@ -130,7 +120,7 @@ module _ (cs : List Constant) (vs : List Verb) (n : Node) (t : List ℕ) (S : St
 
       go : (b : Bool) → member v (free n ++ binders n) ≡ b → choose b (choose (ltb 7 (getD t v 0)) (getD t v 0 - 7) 0) 0 ≡ kindOf ps v
       go true e =
-          let p = placed v (member-of v (free n ++ binders n) (T-of _ e)) in
+          let p = placed v (member-of v (free n ++ binders n) (true-T _ e)) in
           let h : kindOf ps v ≡ 0 → ⊥ = kind-some ps v (p .0) (λ q m. S .regular .places q m .0) (p .1) in
           let c = cell h in
           choose-true _ 0 refl ∙ choose-true (getD t v 0 - 7) 0 (lt-ltb 7 (getD t v 0) (omega arith)) ∙ omega arith
@@ -140,7 +130,7 @@ module _ (cs : List Constant) (vs : List Verb) (n : Node) (t : List ℕ) (S : St
           (⊎-elim (Memᴰ·append-left _) (Memᴰ·append-right (free n)) (place-used vs n v k m))))
 
   pub kinds-are : cellKinds t (marked (binders n) (marked (free n) none)) ≡ map (kindOf (demandsIn n vs .places)) variables
-  kinds-are = same-map (cellKind t (marked (binders n) (marked (free n) none))) (kindOf (demandsIn n vs .places)) kind-at
+  kinds-are = same-variables (cellKind t (marked (binders n) (marked (free n) none))) (kindOf (demandsIn n vs .places)) kind-at
 
 -- ---- the answer
 
@@ -158,7 +148,7 @@ module _ {cs : List Constant} {vs : List Verb} {ks sg : List ℕ} (X : Tables cs
   -- an accepted node: safe or not
   module _ (e : ℕ) (t : List ℕ) (S : State cs t (demandsIn node vs)) (sound : Sound vs node) where
     low : Small node
-    low = node-small vs node sound (fits-low cs (demandsIn node vs) (S .regular) (T-of _ (state-fits cs t (demandsIn node vs) S)))
+    low = node-small vs node sound (fits-low cs (demandsIn node vs) (S .regular) (true-T _ (state-fits cs t (demandsIn node vs) S)))
 
     judged-node : judgedIn (treeIn sg s maxDepth firstNodeAt) ≡ choose (safeRequest node)
         (judgedSafe (marked (free node) none) (marked (binders node) (marked (free node) none))) judgedUnsafe

@@ -4,13 +4,13 @@ use mathlib.Core.Logic.{⊎-elim}
 use mathlib.Core.Bool.{Bool, true, false, cond, _&&_, _||_, not, or-assoc, or-comm, and-false}
 use mathlib.Core.Option as option
 use mathlib.Core.Option.{Option, some}
-use mathlib.Core.List.{List, [], _∷_, _++_, List·Memᴰ, List·Memᴰ·head, List·Memᴰ·tail, Memᴰ·append-right, List·Memᴰ·append-cases, List·Memᴰ·cases-cons, List·Memᴰ·not-nil}
+use mathlib.Core.List.{List, [], _∷_, _++_, List·Memᴰ, List·Memᴰ·head, List·Memᴰ·tail, Memᴰ·append-right, List·Memᴰ·append-cases, List·Memᴰ·cases-cons}
+use mathlib.Core.List.{List·Memᴰ·not-nil}
 use Prim.Native.Nat.{ℕ, _<_}
 use native.Mathlib.Omega.{arith}
 use lib.ListN.{length, getD, set}
 use lib.Seq.{ext-getD}
 use lib.Dec.{eqb}
-use borrow.Author.Tests.{eq-eqb, ne-eqb, eqb-true, eqb-false}
 use Rattle.model.specs.Lists.{all, keep, member, among, without, apart}
 use Rattle.model.specs.Syntax.{flat, canSay, Node, Nodes, says, test, allOf, anyOf, non, exists, end, more, varsOf, varsIn, varsTest}
 use Rattle.model.specs.Kinds.{variables}
@@ -20,9 +20,12 @@ use Rattle.model.specs.Bytes.{choose}
 use Rattle.model.proofs.ListFacts.{keep-of}
 use Rattle.model.proofs.BindingFacts.{at-variable}
 use Rattle.phrases.specs.Marks.{none, marked, meet}
-use Rattle.phrases.proofs.Sets.{marked-append, marked-length, marked-at, within-is, meet-is, drop-is}
-use Rattle.request.specs.Safety.{safeWith, notSafe, knownThen, taken, needed, dropped, knownSays, knownIn, knownAllIn, knownAnyIn, judgedSafe, judgedUnsafe, judgedKnown, judgedBy, judgedIn}
+use Rattle.phrases.proofs.Sets.{marked-append, marked-length, marked-at, within-is, meet-is, drop-is, mark-is}
+use Rattle.request.specs.Safety.{safeWith, notSafe, knownThen, taken, needed, dropped, knownSays, knownIn, knownAllIn, knownAnyIn, judgedSafe}
+use Rattle.request.specs.Safety.{judgedUnsafe, judgedKnown, judgedBy, judgedIn}
 use Rattle.request.specs.declared.safety.Known.{Known}
+use Rattle.model.proofs.Tests.{eqb-turned}
+use Rattle.request.specs.declared.safety.Judged.{Judged}
 
 -- ---- marks
 
@@ -44,15 +47,8 @@ zero-test : (b : Bool) → eqb (cond b 1 0) 0 ≡ not b
 zero-test true = refl
 zero-test false = refl
 
-one-test : (b : Bool) → eqb (cond b 1 0) 1 ≡ b
-one-test true = refl
-one-test false = refl
-
 out : (vs : List ℕ) (v : ℕ) → v < 8 → eqb (getD (marked vs none) v 0) 0 ≡ not (member v vs)
 out vs v h = rw (mark-at vs v h) (zero-test (member v vs))
-
-inside : (vs : List ℕ) (v : ℕ) → v < 8 → eqb (getD (marked vs none) v 0) 1 ≡ member v vs
-inside vs v h = rw (mark-at vs v h) (one-test (member v vs))
 
 -- lists with the same members have the same marks
 pub same-marks : (xs ys : List ℕ) → ((v : ℕ) → member v xs ≡ member v ys) → marked xs none ≡ marked ys none
@@ -93,12 +89,14 @@ unfolding choose
 provided-is true o = refl
 provided-is false o = refl
 
-onward-is : (o : Option (List ℕ)) (f : List ℕ → Known) (g : List ℕ → Option (List ℕ)) → ((ws : List ℕ) → f (marked ws none) ≡ knownAs (g ws)) → knownThen (knownAs o) f ≡ knownAs (onward o g)
+onward-is : (o : Option (List ℕ)) (f : List ℕ → Known) (g : List ℕ → Option (List ℕ)) → ((ws : List ℕ) → f (marked ws none) ≡ knownAs (g ws))
+    → knownThen (knownAs o) f ≡ knownAs (onward o g)
 unfolding knownThen choose
 onward-is option.none f g h = refl
 onward-is (some ws) f g h = h ws
 
-then-is : (k : Known) (o : Option (List ℕ)) (f : List ℕ → Known) (g : List ℕ → Option (List ℕ)) → k ≡ knownAs o → ((ws : List ℕ) → f (marked ws none) ≡ knownAs (g ws)) → knownThen k f ≡ knownAs (onward o g)
+then-is : (k : Known) (o : Option (List ℕ)) (f : List ℕ → Known) (g : List ℕ → Option (List ℕ)) → k ≡ knownAs o
+    → ((ws : List ℕ) → f (marked ws none) ≡ knownAs (g ws)) → knownThen k f ≡ knownAs (onward o g)
 then-is k o f g e h = rw e (onward-is o f g h)
 
 abbrev pub Below : List ℕ → Type 0
@@ -109,14 +107,15 @@ unfolding needed
 needed-is xs vs u h = rw (within-is xs vs h)
 
 -- what is needed, and then f
-needed-then : (b : Bool) (m : List ℕ) (f : List ℕ → Known) (o : Option (List ℕ)) → f m ≡ knownAs o → knownThen (choose b (safeWith m) notSafe) f ≡ knownAs (provided b o)
+needed-then : (b : Bool) (m : List ℕ) (f : List ℕ → Known) (o : Option (List ℕ)) → f m ≡ knownAs o
+    → knownThen (choose b (safeWith m) notSafe) f ≡ knownAs (provided b o)
 unfolding knownThen choose
 needed-then true m f o h = h
 needed-then false m f o h = refl
 
 dropped-is : (v : ℕ) (ws : List ℕ) → v < 8 → dropped v (marked ws none) ≡ knownAs (provided (member v ws) (some (without v ws)))
 unfolding dropped
-dropped-is v ws h = rw (inside ws v h, drop-is v ws) (provided-is (member v ws) (some (without v ws)))
+dropped-is v ws h = rw (mark-is ws v h, drop-is v ws) (provided-is (member v ws) (some (without v ws)))
 
 -- ---- nodes whose variables are among the eight
 
@@ -175,51 +174,52 @@ mutual
   known-is (allOf ns) vs h = known-all-is ns vs h
   known-is (anyOf ns) vs h = known-any-is ns vs h
   known-is (non n) vs h =
-      ap (λ (k : Known). knownThen k (λ _. knownThen (knownIn n (marked vs none)) (λ _. safeWith (marked vs none)))) (needed-is (free n) vs (marked vs none) (free-below n h))
-      ∙ needed-then (among (free n) vs) (marked vs none) _ (onward (known n vs) (λ ws. some vs)) (then-is (knownIn n (marked vs none)) (known n vs) (λ _. safeWith (marked vs none)) (λ ws. some vs) (known-is n vs h) (λ ws. refl))
+      let K = knownIn n (marked vs none) in
+      let rest = then-is K (known n vs) (λ _. safeWith (marked vs none)) (λ ws. some vs) (known-is n vs h) (λ ws. refl) in
+      ap (λ (k : Known). knownThen k (λ _. knownThen K (λ _. safeWith (marked vs none)))) (needed-is (free n) vs (marked vs none) (free-below n h))
+      ∙ needed-then (among (free n) vs) (marked vs none) _ (onward (known n vs) (λ ws. some vs)) rest
   known-is (exists v n) vs h =
       ap₂ (λ (b : Bool) (k : Known). choose b k notSafe) (out vs v (h .0))
-      (then-is (knownIn n (marked vs none)) (known n vs) (dropped v) (λ ws. provided (member v ws) (some (without v ws))) (known-is n vs (h .1)) (λ ws. dropped-is v ws (h .0)))
+      (then-is (knownIn n (marked vs none)) (known n vs) (dropped v) (λ ws. provided (member v ws) (some (without v ws)))
+      (known-is n vs (h .1)) (λ ws. dropped-is v ws (h .0)))
       ∙ provided-is (not (member v vs)) (onward (known n vs) (λ ws. provided (member v ws) (some (without v ws))))
 
   known-all-is : (ns : Nodes) (vs : List ℕ) → SmallAll ns → knownAllIn ns (marked vs none) ≡ knownAs (knownAll ns vs)
   known-all-is end vs h = refl
-  known-all-is (more n ns) vs h = then-is (knownIn n (marked vs none)) (known n vs) (knownAllIn ns) (knownAll ns) (known-is n vs (h .0)) (λ ws. known-all-is ns ws (h .1))
+  known-all-is (more n ns) vs h =
+      then-is (knownIn n (marked vs none)) (known n vs) (knownAllIn ns) (knownAll ns) (known-is n vs (h .0)) (λ ws. known-all-is ns ws (h .1))
 
   known-any-is : (ns : Nodes) (vs : List ℕ) → SmallAll ns → knownAnyIn ns (marked vs none) ≡ knownAs (knownAny ns vs)
   known-any-is end vs h = refl
   known-any-is (more n ns) vs h =
       then-is (knownIn n (marked vs none)) (known n vs) _ (λ ws. onward (knownAny ns vs) (λ us. some (keep (λ w. member w us) ws))) (known-is n vs (h .0))
-      (λ ws. then-is (knownAnyIn ns (marked vs none)) (knownAny ns vs) (λ w. safeWith (meet 8 (marked ws none) w)) (λ us. some (keep (λ w. member w us) ws)) (known-any-is ns vs (h .1)) (λ us. ap safeWith (meet-is ws us)))
+      (λ ws. then-is (knownAnyIn ns (marked vs none)) (knownAny ns vs) (λ w. safeWith (meet 8 (marked ws none) w)) (λ us. some (keep (λ w. member w us) ws))
+      (known-any-is ns vs (h .1)) (λ us. ap safeWith (meet-is ws us)))
 
 -- ---- binders
 
 all-out : (v : ℕ) (vs xs : List ℕ) → all (λ w. not (member w (v ∷ vs))) xs ≡ (not (member v xs) && all (λ w. not (member w vs)) xs)
 all-out v vs [] = refl
-all-out v vs (x ∷ xs) = step (eqb x v) (eqb v x) (flip x v) (member x vs) (member v xs) (all (λ w. not (member w vs)) xs) (all-out v vs xs)
+all-out v vs (x ∷ xs) = step (eqb x v) (eqb v x) (eqb-turned x v) (member x vs) (member v xs) (all (λ w. not (member w vs)) xs) (all-out v vs xs)
   where
-    flip : (a b : ℕ) → eqb a b ≡ eqb b a
-    flip a b = by (eqb a b) refl
-      where
-        by : (c : Bool) → eqb a b ≡ c → c ≡ eqb b a
-        by true e = sym (eq-eqb b a (sym (eqb-true a b e)))
-        by false e = sym (ne-eqb b a (λ q. eqb-false a b e (sym q)))
-
     step : (a b : Bool) → a ≡ b → (c d e : Bool) {r : Bool} → r ≡ (not d && e) → (not (a || c) && r) ≡ (not (b || d) && (not c && e))
     step true b p c d e q = rw (← p)
     step false b p true d e q = rw (← p) (sym (and-false (not d)))
     step false b p false d e q = rw (← p) q
 
-taken-is : (xs vs : List ℕ) → Below xs → taken xs (marked vs none) ≡ choose (apart xs && all (λ v. not (member v vs)) xs) (safeWith (marked xs (marked vs none))) notSafe
+taken-is : (xs vs : List ℕ) → Below xs
+    → taken xs (marked vs none) ≡ choose (apart xs && all (λ v. not (member v vs)) xs) (safeWith (marked xs (marked vs none))) notSafe
 unfolding taken choose
 taken-is [] vs h = refl
 taken-is (x ∷ xs) vs h =
     let l : x < 8 = h x (List·Memᴰ·head refl) in
     let one : marked (x ∷ []) (marked vs none) ≡ marked (x ∷ vs) none = added (x ∷ []) vs in
-    let ih : taken xs (set (marked vs none) x 1) ≡ choose (apart xs && all (λ v. not (member v (x ∷ vs))) xs) (safeWith (marked xs (set (marked vs none) x 1))) notSafe
-    = rw one (taken-is xs (x ∷ vs) (λ v m. h v (List·Memᴰ·tail m))) in
-    rw (out vs x l) (ap (λ (k : Known). choose (not (member x vs)) k notSafe) (ih ∙ ap (λ (b : Bool). choose (apart xs && b) (safeWith (marked xs (set (marked vs none) x 1))) notSafe) (all-out x vs xs))
-    ∙ sum (not (member x vs)) (apart xs) (not (member x xs)) (all (λ v. not (member v vs)) xs) (safeWith (marked xs (set (marked vs none) x 1))))
+    let m = set (marked vs none) x 1 in
+    let ih : taken xs m ≡ choose (apart xs && all (λ v. not (member v (x ∷ vs))) xs) (safeWith (marked xs m)) notSafe =
+    rw one (taken-is xs (x ∷ vs) (λ v m. h v (List·Memᴰ·tail m))) in
+    let later = ih ∙ ap (λ (b : Bool). choose (apart xs && b) (safeWith (marked xs m)) notSafe) (all-out x vs xs) in
+    rw (out vs x l) (ap (λ (k : Known). choose (not (member x vs)) k notSafe) later
+    ∙ sum (not (member x vs)) (apart xs) (not (member x xs)) (all (λ v. not (member v vs)) xs) (safeWith (marked xs m)))
   where
     sum : (a b c d : Bool) (k : Known) → choose a (choose (b && (c && d)) k notSafe) notSafe ≡ choose ((c && b) && (a && d)) k notSafe
     sum true true true d k = refl
@@ -234,21 +234,26 @@ taken-is (x ∷ xs) vs h =
 -- ---- the whole request
 
 -- THE LAW
-pub judged-is : (n : Node) → Small n → judgedIn n ≡ choose (safeRequest n) (judgedSafe (marked (free n) none) (marked (binders n) (marked (free n) none))) judgedUnsafe
+pub judged-is : (n : Node) → Small n
+    → judgedIn n ≡ choose (safeRequest n) (judgedSafe (marked (free n) none) (marked (binders n) (marked (free n) none))) judgedUnsafe
 unfolding judgedIn judgedBy judgedKnown choose
 judged-is n h =
     rw (taken-is (binders n) (free n) (binders-below n h), known-is n [] h)
     (go (apart (binders n)) (all (λ v. not (member v (free n))) (binders n)) (known n []))
   where
-    last : (c : Bool) → choose c (judgedSafe (marked (free n) none) (marked (binders n) (marked (free n) none))) judgedUnsafe ≡ choose (c && true && true) (judgedSafe (marked (free n) none) (marked (binders n) (marked (free n) none))) judgedUnsafe
+    safely : Judged
+    safely = judgedSafe (marked (free n) none) (marked (binders n) (marked (free n) none))
+
+    last : (c : Bool) → choose c safely judgedUnsafe ≡ choose (c && true && true) safely judgedUnsafe
     last true = refl
     last false = refl
 
-    go : (a b : Bool) (o : Option (List ℕ)) → judgedBy (marked (free n) none) (choose (a && b) (safeWith (marked (binders n) (marked (free n) none))) notSafe) (knownAs o)
-        ≡ choose (isSafe o (free n) && a && b) (judgedSafe (marked (free n) none) (marked (binders n) (marked (free n) none))) judgedUnsafe
+    go : (a b : Bool) (o : Option (List ℕ))
+        → judgedBy (marked (free n) none) (choose (a && b) (safeWith (marked (binders n) (marked (free n) none))) notSafe) (knownAs o)
+        ≡ choose (isSafe o (free n) && a && b) safely judgedUnsafe
     go true true option.none = refl
     go true true (some ws) = rw (within-is (free n) ws (free-below n h)) (last (among (free n) ws))
     go true false option.none = refl
-    go true false (some ws) = ap (λ (b : Bool). choose b (judgedSafe (marked (free n) none) (marked (binders n) (marked (free n) none))) judgedUnsafe) (sym (and-false (among (free n) ws && true)))
+    go true false (some ws) = ap (λ (b : Bool). choose b safely judgedUnsafe) (sym (and-false (among (free n) ws && true)))
     go false b option.none = refl
-    go false b (some ws) = ap (λ (c : Bool). choose (c && b) (judgedSafe (marked (free n) none) (marked (binders n) (marked (free n) none))) judgedUnsafe) (sym (and-false (among (free n) ws)))
+    go false b (some ws) = ap (λ (c : Bool). choose (c && b) safely judgedUnsafe) (sym (and-false (among (free n) ws)))

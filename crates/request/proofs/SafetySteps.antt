@@ -22,7 +22,8 @@ use Rattle.request.specs.Safety.{safeWith, notSafe, knownThen, taken}
 use Rattle.request.specs.declared.safety.Known.{Known}
 use Rattle.request.specs.declared.tree.Shape.{Shape}
 use Rattle.request.specs.declared.tree.Shape.the-variants.{Says, Test, All, Any, Not, Exists, Nothing}
-use Rattle.request.proofs.TreeSteps.{nodes-none, nodes-more, tree-deep, tree-past, tree-says, tree-test, tree-all, tree-any, tree-not, tree-exists, tree-nothing}
+use Rattle.request.proofs.TreeSteps.{nodes-none, nodes-more, tree-deep, tree-past, tree-says, tree-test, tree-all, tree-any, tree-not, tree-exists}
+use Rattle.request.proofs.TreeSteps.{tree-nothing}
 
 -- a number that a callee returned
 pub via-num : {r b t : ℕ} → r ≡ b → r ≡ t → b ≡ t
@@ -38,7 +39,8 @@ set-apart : (v x : ℕ) (xs m : List ℕ) → set (marked xs m) v x ≡ marked (
 set-apart v x [] m = refl
 set-apart v x (w ∷ ws) m = go (eqb v w) refl (λ k. set-apart v x ws k)
   where
-    go : (b : Bool) → eqb v w ≡ b → ((k : List ℕ) → set (marked ws k) v x ≡ marked (without v ws) (set k v x)) → set (marked ws (set m w 1)) v x ≡ marked (only (not b) w ++ without v ws) (set m v x)
+    go : (b : Bool) → eqb v w ≡ b → ((k : List ℕ) → set (marked ws k) v x ≡ marked (without v ws) (set k v x))
+        → set (marked ws (set m w 1)) v x ≡ marked (only (not b) w ++ without v ws) (set m v x)
     go true e ih = let d : v ≡ w = eqb-true v w e in rw (← d) (ih (set m v 1) ∙ ap (marked (without v ws)) (set-set m v 1 x))
     go false e ih = ih (set m w 1) ∙ ap (marked (without v ws)) (set-comm m w v 1 x (λ q. eqb-false v w e (sym q)))
 
@@ -95,7 +97,8 @@ module _ (sg s : List ℕ) where
       pub free-not : y ≡ Not → z ≡ marked (free (treeIn sg s (d - 1) (at + 1))) m → z ≡ marked (free (treeIn sg s d at)) m
       free-not g h = rw (tree-not sg s d at y n l e g) h
 
-      pub free-exists : (u : List ℕ) → y ≡ Exists → u ≡ marked (free (treeIn sg s (d - 1) (at + 2))) m → z ≡ set u (byteAt s (at + 1)) (getD m (byteAt s (at + 1)) 0) → z ≡ marked (free (treeIn sg s d at)) m
+      pub free-exists : (u : List ℕ) → y ≡ Exists → u ≡ marked (free (treeIn sg s (d - 1) (at + 2))) m
+          → z ≡ set u (byteAt s (at + 1)) (getD m (byteAt s (at + 1)) 0) → z ≡ marked (free (treeIn sg s d at)) m
       free-exists u g k h = rw (tree-exists sg s d at y n l e g) (h ∙ rw k (set-back (byteAt s (at + 1)) (free (treeIn sg s (d - 1) (at + 2))) m))
 
       pub free-nothing : y ≡ Nothing → z ≡ m → z ≡ marked (free (treeIn sg s d at)) m
@@ -105,7 +108,8 @@ module _ (sg s : List ℕ) where
     pub free-none : n ≡ 0 → m ≡ marked (freeAll (nodesIn d n at)) m
     free-none e = rw (nodes-none (treeIn sg s d) (endIn sg s d) n at e)
 
-    pub free-more : (u z : List ℕ) (p : ℕ) → (n ≡ 0 → ⊥) → u ≡ marked (free (treeIn sg s d at)) m → p ≡ endIn sg s d at → z ≡ marked (freeAll (nodesIn d (n - 1) p)) u → z ≡ marked (freeAll (nodesIn d n at)) m
+    pub free-more : (u z : List ℕ) (p : ℕ) → (n ≡ 0 → ⊥) → u ≡ marked (free (treeIn sg s d at)) m → p ≡ endIn sg s d at
+        → z ≡ marked (freeAll (nodesIn d (n - 1) p)) u → z ≡ marked (freeAll (nodesIn d n at)) m
     free-more u z p x a e h =
         rw (nodes-more (treeIn sg s d) (endIn sg s d) n at p x e)
         (h ∙ ap (marked (freeAll (nodesIn d (n - 1) p))) a ∙ sym (marked-append (free (treeIn sg s d at)) (freeAll (nodesIn d (n - 1) p)) m))
@@ -139,7 +143,8 @@ module _ (sg s : List ℕ) where
       pub binders-not : y ≡ Not → z ≡ taken (binders (treeIn sg s (d - 1) (at + 1))) m → z ≡ taken (binders (treeIn sg s d at)) m
       binders-not g h = rw (tree-not sg s d at y n l e g) h
 
-      pub binders-new : y ≡ Exists → getD m (byteAt s (at + 1)) 0 ≡ 0 → z ≡ taken (binders (treeIn sg s (d - 1) (at + 2))) (set m (byteAt s (at + 1)) 1) → z ≡ taken (binders (treeIn sg s d at)) m
+      pub binders-new : y ≡ Exists → getD m (byteAt s (at + 1)) 0 ≡ 0 → z ≡ taken (binders (treeIn sg s (d - 1) (at + 2))) (set m (byteAt s (at + 1)) 1)
+          → z ≡ taken (binders (treeIn sg s d at)) m
       unfolding taken
       binders-new g o h = rw (tree-exists sg s d at y n l e g) (on-yes _ _ _ _ (eq-eqb (getD m (byteAt s (at + 1)) 0) 0 o) h)
 
@@ -156,7 +161,8 @@ module _ (sg s : List ℕ) where
     unfolding taken
     binders-none e = rw (nodes-none (treeIn sg s d) (endIn sg s d) n at e)
 
-    pub binders-more : (y z : Known) (p : ℕ) → (n ≡ 0 → ⊥) → y ≡ taken (binders (treeIn sg s d at)) m → y .safe ≡ true → p ≡ endIn sg s d at → z ≡ taken (bindersAll (nodesIn d (n - 1) p)) (y .of)
+    pub binders-more : (y z : Known) (p : ℕ) → (n ≡ 0 → ⊥) → y ≡ taken (binders (treeIn sg s d at)) m → y .safe ≡ true → p ≡ endIn sg s d at
+        → z ≡ taken (bindersAll (nodesIn d (n - 1) p)) (y .of)
         → z ≡ taken (bindersAll (nodesIn d n at)) m
     binders-more y z p x a o e h =
         rw (nodes-more (treeIn sg s d) (endIn sg s d) n at p x e, taken-append (binders (treeIn sg s d at)) (bindersAll (nodesIn d (n - 1) p)) m)
@@ -164,5 +170,6 @@ module _ (sg s : List ℕ) where
 
     pub binders-stop : (y : Known) → (n ≡ 0 → ⊥) → y ≡ taken (binders (treeIn sg s d at)) m → y .safe ≡ false → y ≡ taken (bindersAll (nodesIn d n at)) m
     binders-stop y x a o =
-        rw (nodes-more (treeIn sg s d) (endIn sg s d) n at (endIn sg s d at) x refl, taken-append (binders (treeIn sg s d at)) (bindersAll (nodesIn d (n - 1) (endIn sg s d at))) m)
-        (known-no _ y (taken (bindersAll (nodesIn d (n - 1) (endIn sg s d at)))) a o)
+        let p = endIn sg s d at in
+        let rest = bindersAll (nodesIn d (n - 1) p) in
+        rw (nodes-more (treeIn sg s d) (endIn sg s d) n at p x refl, taken-append (binders (treeIn sg s d at)) rest m) (known-no _ y (taken rest) a o)

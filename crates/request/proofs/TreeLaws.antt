@@ -8,7 +8,8 @@ use lib.Dec.{eqb, leb}
 use borrow.Author.Tests.{leb-true}
 use Rattle.model.specs.Syntax.{Constant, Verb, Node, says, allOf, anyOf, non, exists, end, more}
 use Rattle.model.specs.Bytes.{byteAt, choose}
-use Rattle.model.specs.Readings.{exprAt, Sort, saysSort, testSort, allSort, anySort, notSort, existsSort, noSort, sortOf, endsBy, nodesBy, endBy, nodeEnd, nodeBy, nodeAt}
+use Rattle.model.specs.Readings.{exprAt, Sort, saysSort, testSort, allSort, anySort, notSort, existsSort, noSort, sortOf, endsBy, nodesBy, endBy, nodeEnd}
+use Rattle.model.specs.Readings.{nodeBy, nodeAt}
 use Rattle.wire.proofs.Reading.{choose-true, choose-false, past-end}
 use Rattle.phrases.specs.Tables.{Tables}
 use Rattle.phrases.proofs.Model.{fact-is, next-is}
@@ -62,7 +63,8 @@ ends-same g h e (suc n) at = ends-same g h e n (g at) ∙ ap (endsBy h n) (e at)
 nodes-same : (f k : ℕ → Node) (g h : ℕ → ℕ) → ((at : ℕ) → f at ≡ k at) → ((at : ℕ) → g at ≡ h at) → (n at : ℕ) → nodesBy f g n at ≡ nodesBy k h n at
 unfolding nodesBy
 nodes-same f k g h p e zero at = refl
-nodes-same f k g h p e (suc n) at = ap (λ (x : Node). more x (nodesBy f g n (g at))) (p at) ∙ ap (more (k at)) (nodes-same f k g h p e n (g at) ∙ ap (nodesBy k h n) (e at))
+nodes-same f k g h p e (suc n) at =
+    ap (λ (x : Node). more x (nodesBy f g n (g at))) (p at) ∙ ap (more (k at)) (nodes-same f k g h p e n (g at) ∙ ap (nodesBy k h n) (e at))
 
 module _ {cs : List Constant} {vs : List Verb} {ks sg : List ℕ} (X : Tables cs vs ks sg) (s : List ℕ) where
   end-of : (k : Shape) (g h : ℕ → ℕ) → ((at : ℕ) → g at ≡ h at) → (at : ℕ) → endOf sg s k g at ≡ endBy vs s (named k) h at
@@ -81,9 +83,11 @@ module _ {cs : List Constant} {vs : List Verb} {ks sg : List ℕ} (X : Tables cs
   end-is (suc d) at =
       by-bool (leb (length s) at)
       (λ o. choose-true _ _ o ∙ sym (ap (λ (k : Sort). endBy vs s k (nodeEnd vs s d) at) (past-sort s at (leb-true (length s) at o))))
-      (λ o. choose-false _ _ o ∙ end-of (shapeAt s at) (endIn sg s d) (nodeEnd vs s d) (λ p. end-is d p) at ∙ ap (λ (k : Sort). endBy vs s k (nodeEnd vs s d) at) (sym (sort-is (byteAt s at))))
+      (λ o. choose-false _ _ o ∙ end-of (shapeAt s at) (endIn sg s d) (nodeEnd vs s d) (λ p. end-is d p) at
+      ∙ ap (λ (k : Sort). endBy vs s k (nodeEnd vs s d) at) (sym (sort-is (byteAt s at))))
 
-  tree-of : (k : Shape) (f q : ℕ → Node) (g h : ℕ → ℕ) → ((at : ℕ) → f at ≡ q at) → ((at : ℕ) → g at ≡ h at) → (at : ℕ) → treeOf sg s k f g at ≡ nodeBy vs s (named k) q h at
+  tree-of : (k : Shape) (f q : ℕ → Node) (g h : ℕ → ℕ) → ((at : ℕ) → f at ≡ q at) → ((at : ℕ) → g at ≡ h at) → (at : ℕ)
+      → treeOf sg s k f g at ≡ nodeBy vs s (named k) q h at
   unfolding treeOf nodeBy
   tree-of Says f q g h p e at = ap (says (exprAt s (at + 1))) (fact-is X s (at + 3))
   tree-of Test f q g h p e at = refl

@@ -58,7 +58,8 @@ module _ (sg s : List ℕ) where
   tree-past zero at l = refl
   tree-past (suc d) at l = choose-true _ _ (le-leb (length s) at l)
 
-  tree-as : (d at : ℕ) (k y : Shape) → (d ≡ 0 → ⊥) → at < length s → y ≡ shapeAt s at → y ≡ k → treeIn sg s d at ≡ treeOf sg s k (treeIn sg s (d - 1)) (endIn sg s (d - 1)) at
+  tree-as : (d at : ℕ) (k y : Shape) → (d ≡ 0 → ⊥) → at < length s → y ≡ shapeAt s at → y ≡ k
+      → treeIn sg s d at ≡ treeOf sg s k (treeIn sg s (d - 1)) (endIn sg s (d - 1)) at
   unfolding treeIn
   tree-as zero at k y n l e g = absurd (n refl)
   tree-as (suc d) at k y n l e g = choose-false _ _ (lt-leb (length s) at l) ∙ rw (← e, g, sub-one) refl

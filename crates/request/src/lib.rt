@@ -11,7 +11,7 @@ ghost use Rattle.model.specs.Requests as requests;
 ghost use Rattle.model.specs.Readings.{nodeAt};
 ghost use Rattle.model.specs.Nodes.{readRequest};
 ghost use Rattle.phrases.specs.Tables.{Tables};
-ghost use Rattle.policy.specs.Steps.{longest};
+ghost use Rattle.wire.specs.Budget.{longest};
 ghost use Rattle.request.specs.Tree.{treeIn};
 ghost use Rattle.request.specs.Safety.{judgedIn};
 ghost use Rattle.request.specs.Requests.{refusal, handedOut, cellKind, cellKinds, acceptedIn, endedIn, wholeIn};

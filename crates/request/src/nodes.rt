@@ -4,7 +4,7 @@ ghost use Prim.Native.Nat.{_+_, _≤_, _<_};
 ghost use lib.ListN.{length};
 ghost use Rattle.model.specs.Nodes.{partsForm, variableForm};
 ghost use Rattle.kinds.specs.Cells.{feed};
-ghost use Rattle.policy.specs.Steps.{longest};
+ghost use Rattle.wire.specs.Budget.{longest};
 ghost use Rattle.request.specs.Tree.{shapeAt};
 ghost use Rattle.request.specs.Nodes.{ownForm, fitsTo, testIn, saysAsks, saysIn, readsBy, readIn};
 use super::tree;

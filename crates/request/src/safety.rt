@@ -9,7 +9,7 @@ ghost use Rattle.model.specs.Safety.{binders, bindersAll};
 ghost use Rattle.model.specs.Readings.{exprAt, constraintAt, nodesBy};
 ghost use Rattle.phrases.specs.Phrases.{factBy};
 ghost use Rattle.phrases.specs.Marks.{none, marked, meet};
-ghost use Rattle.policy.specs.Steps.{longest};
+ghost use Rattle.wire.specs.Budget.{longest};
 ghost use Rattle.request.specs.Tree.{endIn, treeIn};
 ghost use Rattle.request.specs.Safety.{safeWith, notSafe, knownThen, taken, needed, dropped, knownSays, knownIn, knownAllIn, knownAnyIn};
 ghost use Rattle.request.specs.Safety.{judgedUnsafe, judgedKnown, judgedIn};

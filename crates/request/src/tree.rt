@@ -3,7 +3,7 @@ ghost use mathlib.Core.Path.{_≡_};
 ghost use Prim.Native.Nat.{_≤_, _<_};
 ghost use lib.ListN.{length};
 ghost use Rattle.model.specs.Readings.{endsBy};
-ghost use Rattle.policy.specs.Steps.{longest};
+ghost use Rattle.wire.specs.Budget.{longest};
 ghost use Rattle.request.specs.Tree.{laterShape, shapeOf, shapeAt, endIn};
 
 // What a node is by its first byte.

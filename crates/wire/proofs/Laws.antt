@@ -23,7 +23,9 @@ module _ (s : List ℕ) where
   unfolding bytesAt
   same-none n p q e = rw e
 
-  pub same-more : (n p q : ℕ) (z : Bool) → (n ≡ 0 → ⊥) → z ≡ (eqb (byteAt s p) (byteAt s q) && sameList (bytesAt (n - 1) s (p + 1)) (bytesAt (n - 1) s (q + 1))) → z ≡ sameList (bytesAt n s p) (bytesAt n s q)
+  pub same-more : (n p q : ℕ) (z : Bool) → (n ≡ 0 → ⊥)
+      → z ≡ (eqb (byteAt s p) (byteAt s q) && sameList (bytesAt (n - 1) s (p + 1)) (bytesAt (n - 1) s (q + 1)))
+      → z ≡ sameList (bytesAt n s p) (bytesAt n s q)
   unfolding bytesAt
   same-more zero p q z h e = absurd (h refl)
   same-more (suc n) p q z h e = rw sub-one at e

@@ -8,6 +8,7 @@ use mathlib.Core.List.{List, [], _∷_}
 use borrow.Author.Tests.{lt-ltb, le-ltb, le-leb, lt-leb, eq-eqb, ne-eqb, not-true, not-false}
 use native.Mathlib.Omega.{arith}
 use Rattle.model.specs.Bytes.{choose, both}
+pub use Rattle.model.proofs.Tests.{both-first, both-second}
 
 pub choose-true : {A : Type 0} {b : Bool} (x y : A) → b ≡ true → choose b x y ≡ x
 unfolding choose
@@ -48,16 +49,6 @@ pub or-no : (a b z : Bool) → a ≡ false → z ≡ b → z ≡ a || b
 or-no true b z e p = absurd (false≢true (sym e))
 or-no false b z e p = p
 
-pub both-first : (a b : Bool) → both a b ≡ true → a ≡ true
-unfolding both choose
-both-first true b e = refl
-both-first false b e = e
-
-pub both-second : (a b : Bool) → both a b ≡ true → b ≡ true
-unfolding both choose
-both-second true b e = e
-both-second false b e = absurd (false≢true e)
-
 -- a callee's result r stands for the test b
 pub via : {r b t : Bool} → r ≡ b → r ≡ t → b ≡ t
 via p q = sym p ∙ q
@@ -78,7 +69,28 @@ leb-of a b c d p q = rw (p, q)
 pub ltb-of : (a b c d : ℕ) → a ≡ b → c ≡ d → ltb a c ≡ ltb b d
 ltb-of a b c d p q = rw (p, q)
 
-pub ruleset reading = (eqb-of, leb-of, ltb-of, on-yes, on-no, both-yes, both-no, and-yes, and-no, or-yes, or-no, via, via-not, via-not′, lt-ltb, le-ltb, le-leb, lt-leb, eq-eqb, ne-eqb)
+pub ruleset reading = (
+  eqb-of,
+  leb-of,
+  ltb-of,
+  on-yes,
+  on-no,
+  both-yes,
+  both-no,
+  and-yes,
+  and-no,
+  or-yes,
+  or-no,
+  via,
+  via-not,
+  via-not′,
+  lt-ltb,
+  le-ltb,
+  le-leb,
+  lt-leb,
+  eq-eqb,
+  ne-eqb,
+)
 
 -- past the end a byte reads as 0
 pub past-end : (s : List ℕ) (i : ℕ) → length s ≤ i → getD s i 0 ≡ 0

@@ -4,26 +4,11 @@ use mathlib.Core.Bool.{Bool}
 use Prim.Native.Nat.{ℕ, _+_, _-_, _≤_}
 use native.Mathlib.Omega.{arith}
 use Rattle.model.specs.Calendar.{leapYear}
-use Rattle.model.proofs.Years.{more, base}
+use Rattle.model.proofs.DaysOfYear.{more, base}
 use Rattle.calendar.proofs.Laws.{early-month, late-month, base-most}
 use borrow.Author.Needs.{needs}
 use Rattle.calendar.proofs.before_month.Statement.{statement}
 use Rattle.calendar.proofs.before_month.Tie as tie
-use Rattle.calendar.proofs.before_month.Reads as reads
-use Rattle.calendar.proofs.before_month.Lts as lts
-use Rattle.calendar.proofs.leap_year.Reads as leap-year-reads
-
-sub-days : tie.Need-sub-days
-sub-days c = search needs
-
-cast-days : tie.Need-cast-days
-cast-days c = search needs
-
-mul-days : tie.Need-mul-days
-mul-days c = search needs
-
-array-read-days : tie.Need-array-read-days
-array-read-days c = search needs
 
 cast-days-2 : tie.Need-cast-days-2
 cast-days-2 c = omega (arith, base-most (c .args .month) (c .pre .0) (c .pre .1))
@@ -33,9 +18,6 @@ returns c =
     let year = c .before .args .year in
     let month = c .before .args .month in
     (early-month year month (c .before .pre .0) (c .before .pre .1) (c .if1 .taken), omega (arith, base-most month (c .before .pre .0) (c .before .pre .1)))
-
-leap-year-requires : tie.Need-leap-year-requires
-leap-year-requires c κs = search needs
 
 add-result : tie.Need-add-result
 add-result c = omega (arith, base-most (c .before .before .before .args .month) (c .before .before .before .pre .0) (c .before .before .before .pre .1))
@@ -55,4 +37,16 @@ returns-3 c =
     (omega (arith, none, days), omega (arith, base-most (entry .args .month) (entry .pre .0) (entry .pre .1)))
 
 pub before-month-spec : {M : Type 1} → statement M
-before-month-spec = tie.close (tie.spec sub-days cast-days mul-days array-read-days cast-days-2 returns leap-year-requires add-result returns-2 returns-3)
+before-month-spec =
+    tie.close
+    (tie.spec
+    (λ c. search needs)
+    (λ c. search needs)
+    (λ c. search needs)
+    (λ c. search needs)
+    cast-days-2
+    returns
+    (λ c κs. search needs)
+    add-result
+    returns-2
+    returns-3)

@@ -7,23 +7,6 @@ use Rattle.calendar.proofs.Laws.{here, found}
 use borrow.Author.Needs.{needs}
 use Rattle.calendar.proofs.date_of.Statement.{statement}
 use Rattle.calendar.proofs.date_of.Tie as tie
-use Rattle.calendar.proofs.date_of.Reads as reads
-use Rattle.calendar.proofs.date_of.Lts as lts
-use Rattle.calendar.proofs.before_month.Reads as before-month-reads
-use Rattle.calendar.proofs.before_year.Reads as before-year-reads
-use Rattle.calendar.proofs.month_of.Reads as month-of-reads
-
--- src/lib.rt:77:29
-mul-year : tie.Need-mul-year
-mul-year c = search needs
-
--- src/lib.rt:77:16
-add-year : tie.Need-add-year
-add-year c = search needs
-
--- src/lib.rt:78:22
-before-year-requires : tie.Need-before-year-requires
-before-year-requires c κs = search needs
 
 -- src/lib.rt:78:16
 sub-over : tie.Need-sub-over
@@ -36,18 +19,6 @@ month-of-requires c κs =
     let h = here day (c .before .pre) in
     let days : yearDays (2000 + (2000 + 4 * day / 1461 - 2000)) ≡ yearDays (2000 + 4 * day / 1461) = ap (λ (k : ℕ). yearDays (2000 + k)) (h .1) in
     omega (arith, c .before-year .ensures, h .0 .0, h .0 .1, days)
-
--- src/lib.rt:83:21
-before-month-requires : tie.Need-before-month-requires
-before-month-requires c κs = search needs
-
--- src/lib.rt:83:14
-sub-t5 : tie.Need-sub-t5
-sub-t5 c = search needs
-
--- src/lib.rt:83:14
-add-t7 : tie.Need-add-t7
-add-t7 c = search needs
 
 -- src/lib.rt:73:1
 returns : tie.Need-returns
@@ -67,12 +38,12 @@ pub date-of-spec : {M : Type 1} → statement M
 date-of-spec =
     tie.close
     (tie.spec
-    mul-year
-    add-year
-    before-year-requires
+    (λ c. search needs)
+    (λ c. search needs)
+    (λ c κs. search needs)
     sub-over
     month-of-requires
-    before-month-requires
-    sub-t5
-    add-t7
+    (λ c κs. search needs)
+    (λ c. search needs)
+    (λ c. search needs)
     returns)

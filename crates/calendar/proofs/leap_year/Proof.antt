@@ -2,8 +2,6 @@
 use Rattle.calendar.proofs.Laws.{not-fourth, no-century, of-century}
 use Rattle.calendar.proofs.leap_year.Statement.{statement}
 use Rattle.calendar.proofs.leap_year.Tie as tie
-use Rattle.calendar.proofs.leap_year.Reads as reads
-use Rattle.calendar.proofs.leap_year.Lts as lts
 
 returns : tie.Need-returns
 returns c = not-fourth (c .before .args .year) (c .if1 .taken)

@@ -7,9 +7,6 @@ use Rattle.calendar.proofs.Laws.{all-months, no-month}
 use borrow.Author.Needs.{needs}
 use Rattle.calendar.proofs.month_of.Statement.{statement}
 use Rattle.calendar.proofs.month_of.Tie as tie
-use Rattle.calendar.proofs.month_of.Reads as reads
-use Rattle.calendar.proofs.month_of.Lts as lts
-use Rattle.calendar.proofs.before_month.Reads as before-month-reads
 
 abbrev Inv-loop : tie.InvT-loop
 Inv-loop year over month₀ month = (1 ≤ month) × (month ≤ 12) × (over < daysOfMonths year month)
@@ -50,7 +47,8 @@ returns-2 : tie.Need-returns-2 Inv-loop μ-loop
 returns-2 c =
     let now = c .before .loop in
     let one : now .month ≡ 1 = omega (arith, now .inv .0, c .loop-test .left) in
-    let none : daysOfMonths (c .before .before .args .year) (now .month - 1) ≡ 0 = ap (λ (m : ℕ). daysOfMonths (c .before .before .args .year) (m - 1)) one ∙ no-month (c .before .before .args .year) in
+    let none : daysOfMonths (c .before .before .args .year) (now .month - 1) ≡ 0 =
+    ap (λ (m : ℕ). daysOfMonths (c .before .before .args .year) (m - 1)) one ∙ no-month (c .before .before .args .year) in
     (now .inv .0, now .inv .1, omega (arith, none), now .inv .2)
 
 pub month-of-spec : {M : Type 1} → statement M

@@ -12,27 +12,11 @@ use Rattle.outcome.specs.Line.{lineOf}
 use Rattle.outcome.proofs.Lines.{any-buffers}
 use Rattle.desk.proofs.answer.Statement.{statement}
 use Rattle.desk.proofs.answer.Tie as tie
-use Rattle.desk.proofs.answer.Reads as reads
-use Rattle.desk.proofs.answer.Lts as lts
-use Rattle.engine.proofs.decide.Reads as decide-reads
-use Rattle.outcome.proofs.line.Reads as line-reads
 
 -- the line of a call's outcome is that of the model's report
 line-of : (policy request facts answers : List ℕ) (o : Outcome) (f a : List ℕ) → Call policy request facts answers (reportOf o f a)
     → lineOf (reportOf o [] []) ≡ lineOf (decision policy request facts answers)
 line-of policy request facts answers o f a e = sym (any-buffers o f a) ∙ ap lineOf e
-
-slice-aggregate-decide : tie.Need-slice-aggregate-decide
-slice-aggregate-decide c = search needs
-
-slice-aggregate-decide-2 : tie.Need-slice-aggregate-decide-2
-slice-aggregate-decide-2 c = search needs
-
-decide-requires : tie.Need-decide-requires
-decide-requires c κs = search needs
-
-line-requires : tie.Need-line-requires
-line-requires c κs = search needs
 
 returns : tie.Need-returns
 returns c =
@@ -44,8 +28,8 @@ pub answer-spec : {M : Type 1} → statement M
 answer-spec =
     tie.close
     (tie.spec
-    slice-aggregate-decide
-    slice-aggregate-decide-2
-    decide-requires
-    line-requires
+    (λ c. search needs)
+    (λ c. search needs)
+    (λ c κs. search needs)
+    (λ c κs. search needs)
     returns)

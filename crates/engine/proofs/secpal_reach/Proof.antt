@@ -9,32 +9,6 @@ use Rattle.engine.proofs.MarkLaws.{policy-words}
 use borrow.Author.Needs.{needs}
 use Rattle.engine.proofs.secpal_reach.Statement.{statement}
 use Rattle.engine.proofs.secpal_reach.Tie as tie
-use Rattle.engine.proofs.secpal_reach.Reads as reads
-use Rattle.engine.proofs.secpal_reach.Lts as lts
-use Rattle.engine.proofs.marking.accepted.Reads as accepted-reads
-use Rattle.engine.proofs.numbers.refused.Reads as refused-reads
-use Rattle.policy.proofs.read.Reads as read-reads
-
-read-requires : tie.Need-read-requires
-read-requires c κs = search needs
-
-enum-told : tie.Need-enum-told
-enum-told c = search needs
-
-accepted-requires : tie.Need-accepted-requires
-accepted-requires c κs = search needs
-
-enum-known-a : tie.Need-enum-known-a
-enum-known-a c = search needs
-
-refused-requires : tie.Need-refused-requires
-refused-requires c κs = search needs
-
-same-length : tie.Need-same-length
-same-length c = search needs
-
-returns : tie.Need-returns
-returns c = search needs
 
 returns-2 : tie.Need-returns-2
 returns-2 c =
@@ -50,11 +24,11 @@ pub secpal-reach-spec : {M : Type 1} → statement M
 secpal-reach-spec =
     tie.close
     (tie.spec
-    read-requires
-    enum-told
-    accepted-requires
-    enum-known-a
-    refused-requires
-    same-length
-    returns
+    (λ c κs. search needs)
+    (λ c. search needs)
+    (λ c κs. search needs)
+    (λ c. search needs)
+    (λ c κs. search needs)
+    (λ c. search needs)
+    (λ c. search needs)
     returns-2)

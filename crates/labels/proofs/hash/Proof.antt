@@ -8,9 +8,6 @@ use Rattle.labels.specs.Hash.{hashFrom, hashOf}
 use Rattle.labels.proofs.Laws.{hash-begin, hash-on, hash-end}
 use Rattle.labels.proofs.hash.Statement.{statement}
 use Rattle.labels.proofs.hash.Tie as tie
-use Rattle.labels.proofs.hash.Reads as reads
-use Rattle.labels.proofs.hash.Lts as lts
-use Rattle.wire.proofs.byte.Reads as byte-reads
 
 abbrev Inv-loop : tie.InvT-loop
 Inv-loop s p n h₀ i₀ h i = (i ≤ n) × (h < 65536) × (hashFrom h (bytesAt (n - i) s (p + i)) ≡ hashOf (bytesAt n s p))
@@ -21,23 +18,8 @@ abbrev μ-loop : tie.MeasureT-loop
 loop-holds : tie.Need-loop-holds Inv-loop μ-loop
 loop-holds c = let args = c .before .args in (omega arith, omega arith, hash-begin (args .s .now) (args .p) (args .n))
 
-mul-h : tie.Need-mul-h Inv-loop μ-loop
-mul-h c = omega arith
-
-add-byte : tie.Need-add-byte Inv-loop μ-loop
-add-byte c = omega arith
-
-byte-requires : tie.Need-byte-requires Inv-loop μ-loop
-byte-requires c κs = search needs
-
 add-h : tie.Need-add-h Inv-loop μ-loop
 add-h c = omega (arith, c .byte .ensures .1)
-
-add-i : tie.Need-add-i Inv-loop μ-loop
-add-i c = omega arith
-
-loop-less : tie.Need-loop-less Inv-loop μ-loop
-loop-less c = omega arith
 
 loop-again : tie.Need-loop-again Inv-loop μ-loop
 loop-again c =
@@ -62,11 +44,11 @@ hash-spec =
     Inv-loop
     μ-loop
     loop-holds
-    mul-h
-    add-byte
-    byte-requires
+    (λ c. omega arith)
+    (λ c. omega arith)
+    (λ c κs. search needs)
     add-h
-    add-i
-    loop-less
+    (λ c. omega arith)
+    (λ c. omega arith)
     loop-again
     returns)

@@ -7,23 +7,6 @@ use Rattle.lookup.proofs.Accepted.{constants-stand, number-is, no-numbe
 use borrow.Author.Needs.{needs}
 use Rattle.lookup.proofs.find.Statement.{statement}
 use Rattle.lookup.proofs.find.Tie as tie
-use Rattle.lookup.proofs.find.Reads as reads
-use Rattle.lookup.proofs.find.Lts as lts
-use Rattle.lookup.proofs.first.Reads as first-reads
-use Rattle.lookup.proofs.has_label.Reads as has-label-reads
-use Rattle.policy.proofs.read.Reads as read-reads
-
-has-label-requires : tie.Need-has-label-requires
-has-label-requires c κs = search needs
-
-read-requires : tie.Need-read-requires
-read-requires c κs = search needs
-
-slice-aggregate-first : tie.Need-slice-aggregate-first
-slice-aggregate-first c = search needs
-
-slice-aggregate-first-2 : tie.Need-slice-aggregate-first-2
-slice-aggregate-first-2 c = search needs
 
 first-requires : tie.Need-first-requires
 first-requires c κs =
@@ -52,10 +35,10 @@ pub find-spec : {M : Type 1} → statement M
 find-spec =
     tie.close
     (tie.spec
-    has-label-requires
-    read-requires
-    slice-aggregate-first
-    slice-aggregate-first-2
+    (λ c κs. search needs)
+    (λ c κs. search needs)
+    (λ c. search needs)
+    (λ c. search needs)
     first-requires
     returns
     returns-2)

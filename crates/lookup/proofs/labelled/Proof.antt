@@ -5,22 +5,6 @@ use Rattle.lookup.proofs.Laws.{label-same, label-other}
 use borrow.Author.Needs.{needs}
 use Rattle.lookup.proofs.labelled.Statement.{statement}
 use Rattle.lookup.proofs.labelled.Tie as tie
-use Rattle.lookup.proofs.labelled.Reads as reads
-use Rattle.lookup.proofs.labelled.Lts as lts
-use Rattle.labels.proofs.alike.Reads as alike-reads
-use Rattle.wire.proofs.byte_or.Reads as byte-or-reads
-
-byte-or-requires : tie.Need-byte-or-requires
-byte-or-requires c κs = search needs
-
-sub-n : tie.Need-sub-n
-sub-n c = search needs
-
-add-alike : tie.Need-add-alike
-add-alike c = search needs
-
-alike-requires : tie.Need-alike-requires
-alike-requires c κs = search needs
 
 returns : tie.Need-returns
 returns c =
@@ -36,4 +20,4 @@ returns-2 c =
 
 pub labelled-spec : {M : Type 1} → statement M
 labelled-spec =
-    tie.close (tie.spec byte-or-requires sub-n add-alike alike-requires returns returns-2)
+    tie.close (tie.spec (λ c κs. search needs) (λ c. search needs) (λ c. search needs) (λ c κs. search needs) returns returns-2)

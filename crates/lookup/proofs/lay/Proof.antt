@@ -8,9 +8,6 @@ use borrow.Author.Needs.{needs}
 use Rattle.lookup.proofs.Laws.{over, over-next, over-length, over-all}
 use Rattle.lookup.proofs.lay.Statement.{statement}
 use Rattle.lookup.proofs.lay.Tie as tie
-use Rattle.lookup.proofs.lay.Reads as reads
-use Rattle.lookup.proofs.lay.Lts as lts
-use Rattle.lookup.proofs.fewer.Reads as fewer-reads
 
 abbrev Inv-loop : tie.InvT-loop
 Inv-loop ats count offsets₀ end i₀ offsets i = (i ≤ end) × (offsets ≡ over ats offsets₀ i) × (length offsets ≡ length offsets₀)
@@ -18,14 +15,8 @@ Inv-loop ats count offsets₀ end i₀ offsets i = (i ≤ end) × (offsets ≡ o
 abbrev μ-loop : tie.MeasureT-loop
 μ-loop ats count offsets₀ end i₀ offsets i = end - i
 
-fewer-requires : tie.Need-fewer-requires Inv-loop μ-loop
-fewer-requires c κs = search needs
-
 loop-holds : tie.Need-loop-holds Inv-loop μ-loop
 loop-holds c = (omega arith, refl, refl)
-
-mul-offsets : tie.Need-mul-offsets Inv-loop μ-loop
-mul-offsets c = omega arith
 
 shared-slice-read-offsets : tie.Need-shared-slice-read-offsets Inv-loop μ-loop
 shared-slice-read-offsets c =
@@ -40,19 +31,10 @@ cast-offsets c =
     let i = c .before .before .loop .i in
     record { fits = omega (arith, entry .pre .small i (omega (arith, end))) }
 
-mul-offsets-2 : tie.Need-mul-offsets-2 Inv-loop μ-loop
-mul-offsets-2 c = omega arith
-
 slice-write-offsets : tie.Need-slice-write-offsets Inv-loop μ-loop
 slice-write-offsets c =
     let end = c .before .before .before .fewer .ensures in
     omega (arith, end, c .before .before .loop .inv .2)
-
-add-i : tie.Need-add-i Inv-loop μ-loop
-add-i c = omega arith
-
-loop-less : tie.Need-loop-less Inv-loop μ-loop
-loop-less c = omega arith
 
 loop-again : tie.Need-loop-again Inv-loop μ-loop
 loop-again c =
@@ -64,9 +46,6 @@ loop-again c =
           ∙ over-next (entry .args .ats .now) (entry .args .offsets .now) (loop .i) (omega (arith, end, entry .pre .within)) (omega (arith, end)),
       rw length-set (loop .inv .2),
     )
-
-same-length : tie.Need-same-length Inv-loop μ-loop
-same-length c = search needs
 
 returns : tie.Need-returns Inv-loop μ-loop
 returns c =
@@ -83,15 +62,15 @@ lay-spec =
     (tie.spec
     Inv-loop
     μ-loop
-    fewer-requires
+    (λ c κs. search needs)
     loop-holds
-    mul-offsets
+    (λ c. omega arith)
     shared-slice-read-offsets
     cast-offsets
-    mul-offsets-2
+    (λ c. omega arith)
     slice-write-offsets
-    add-i
-    loop-less
+    (λ c. omega arith)
+    (λ c. omega arith)
     loop-again
-    same-length
+    (λ c. search needs)
     returns)

@@ -5,16 +5,6 @@ use Rattle.wire.proofs.Reading.{reading, and-no}
 use borrow.Author.Needs.{needs}
 use Rattle.lookup.proofs.named.Statement.{statement}
 use Rattle.lookup.proofs.named.Tie as tie
-use Rattle.lookup.proofs.named.Reads as reads
-use Rattle.lookup.proofs.named.Lts as lts
-use Rattle.lookup.proofs.labelled.Reads as labelled-reads
-use Rattle.wire.proofs.byte_or.Reads as byte-or-reads
-
-byte-or-requires : tie.Need-byte-or-requires
-byte-or-requires c κs = search needs
-
-labelled-requires : tie.Need-labelled-requires
-labelled-requires c κs = search needs
 
 returns : tie.Need-returns
 returns c = search (reading, needs)
@@ -23,4 +13,4 @@ returns-2 : tie.Need-returns-2
 returns-2 c = let kind = c .before .byte-or .ensures .0 in and-no _ _ _ (ne-eqb _ _ (λ e. c .if1 .left (kind ∙ e))) refl
 
 pub named-spec : {M : Type 1} → statement M
-named-spec = tie.close (tie.spec byte-or-requires labelled-requires returns returns-2)
+named-spec = tie.close (tie.spec (λ c κs. search needs) (λ c κs. search needs) returns returns-2)

@@ -27,10 +27,30 @@ pub +digits-spec : {M : Type 1} → statement M
     (λ c. let n = c .before .before .before .args .n in let e = one-length n (omega arith) in omega arith)
     (λ c. let n = c .before .before .before .args .n in let e = one-length n (omega arith) in omega arith)
     (λ c. search needs)
-    (λ c. let start = c .before .before .before in digits-one (start .args .out .now) (start .args .at) (start .args .n) (c .digit .result) (omega arith) (start .pre .1) (c .digit .ensures))
+    (λ c.
+    let start = c .before .before .before in
+    digits-one (start .args .out .now) (start .args .at) (start .args .n) (c .digit .result) (omega arith) (start .pre .1) (c .digit .ensures))
     (λ c κs. let n = c .before .before .before .args .n in let e = more-length n (omega arith) in (omega arith, omega arith))
     (λ c κs. omega arith)
-    (λ c. let n = c .before .before .before .before .before .before .before .args .n in let e = more-length n (omega arith) in let call = c .before .before .before .digits .ensures in let i = call .near in let j = call .whole in omega arith)
-    (λ c. let n = c .before .before .before .before .before .before .before .args .n in let e = more-length n (omega arith) in let call = c .before .before .before .digits .ensures in let i = call .near in let j = call .whole in omega arith)
+    (λ c.
+    let n = c .before .before .before .before .before .before .before .args .n in
+    let e = more-length n (omega arith) in
+    let call = c .before .before .before .digits .ensures in
+    let i = call .near in
+    let j = call .whole in
+    omega arith)
+    (λ c.
+    let n = c .before .before .before .before .before .before .before .args .n in
+    let e = more-length n (omega arith) in
+    let call = c .before .before .before .digits .ensures in
+    let i = call .near in
+    let j = call .whole in
+    omega arith)
     (λ c. search needs)
-    (λ c. let start = c .before .before .before .before .before .before .before in let call = c .before .before .before in digits-more (start .args .out .now) (call .digits .last .0) (start .args .at) (start .args .n) (call .digits .result) (c .digit2 .result) (omega arith) (start .pre .1) (call .digits .ensures) (c .digit2 .ensures))
+    (λ c.
+    let start = c .before .before .before .before .before .before .before in
+    let call = c .before .before .before in
+    let a = start .args in
+    let rest = call .digits in
+    let last = c .digit2 in
+    digits-more (a .out .now) (rest .last .0) (a .at) (a .n) (rest .result) (last .result) (omega arith) (start .pre .1) (rest .ensures) (last .ensures))

@@ -8,12 +8,20 @@ side-word-spec = tie.close (tie.spec
     (λ c. search needs)
     (λ c κs. search needs)
     (λ c. search needs)
-    (λ c. let start = c .before .before .before .before .before .before .before in side-policy (start .args .at) (start .args .side) (c .before .before .before .before .before .if1 .taken) (c .before .before .word .ensures))
+    (λ c.
+    let start = c .before .before .before .before .before .before .before in
+    side-policy (start .args .at) (start .args .side) (c .before .before .before .before .before .if1 .taken) (c .before .before .word .ensures))
     (λ c. search needs)
     (λ c κs. search needs)
     (λ c. search needs)
-    (λ c. let start = c .before .before .before .before .before .before .before .before in side-request (start .args .at) (start .args .side) (c .before .before .before .before .before .if2 .taken) (c .before .before .word2 .ensures))
+    (λ c.
+    let start = c .before .before .before .before .before .before .before .before in
+    side-request (start .args .at) (start .args .side) (c .before .before .before .before .before .if2 .taken) (c .before .before .word2 .ensures))
     (λ c. search needs)
     (λ c κs. search needs)
     (λ c. search needs)
-    (λ c. let start = c .before .before .before .before .before .before .before .before in side-none (start .args .at) (start .args .side) (c .before .before .before .before .before .before .if1 .left) (c .before .before .before .before .before .if2 .left) (c .before .before .word3 .ensures)))
+    (λ c.
+    let start = c .before .before .before .before .before .before .before .before in
+    let first = c .before .before .before .before .before .before in
+    let second = c .before .before .before .before .before in
+    side-none (start .args .at) (start .args .side) (first .if1 .left) (second .if2 .left) (c .before .before .word3 .ensures)))

@@ -23,7 +23,16 @@ word-spec = tie.close (tie.spec Inv-loop μ-loop
     (λ c. search needs)
     (λ c. search needs)
     (λ c. search needs)
-    (λ c. let start = c .before .before .before in (search needs, simp length-set (search needs), rw (c .before .before .loop .inv .2, add-one) (paste-suc (start .args .out .now) (start .args .at) (start .args .w .now) (c .before .before .loop .i) 0 (omega arith) (omega arith))))
+    (λ c.
+    let start = c .before .before .before in
+    let l = c .before .before .loop in
+    let a = start .args in
+    let next = paste-suc (a .out .now) (a .at) (a .w .now) (l .i) 0 (omega arith) (omega arith) in
+    (search needs, simp length-set (search needs), rw (l .inv .2, add-one) next))
     (λ c. search needs)
     (λ c. search needs)
-    (λ c. let start = c .before .before in pasted (start .args .out .now) (c .before .loop .out) (start .args .at) (start .args .w .now) (c .before .loop .i) (omega arith) (omega arith) (c .before .loop .inv .2)))
+    (λ c.
+    let start = c .before .before in
+    let l = c .before .loop in
+    let a = start .args in
+    pasted (a .out .now) (l .out) (a .at) (a .w .now) (l .i) (omega arith) (omega arith) (l .inv .2)))

@@ -17,5 +17,9 @@ test-fit-spec =
     (λ c κs. search needs)
     (λ c κs. search needs)
     (λ c κs. search needs)
-    (λ c. rw (← c .before .before .before .before .before .before .term-at .ensures, ← c .before .before .before .before .before .term-at2 .ensures, ← c .before .u8-or .ensures) (search (feed-same, reading, needs)))
+    (λ c.
+    let operator = c .before in
+    let right = operator .before .before .before .before in
+    let left = right .before in
+    rw (← left .term-at .ensures, ← right .term-at2 .ensures, ← operator .u8-or .ensures) (search (feed-same, reading, needs)))
     (λ c. rw (← c .before .before .before .term-at .ensures, ← c .before .before .term-at2 .ensures) (search (feed-differ, reading, needs))))

@@ -15,4 +15,11 @@ accepted-spec = tie.close (tie.spec
     (λ c κs. search needs)
     (λ c. search needs)
     (λ c κs. search needs)
-    (λ c. rw (← c .before .before .before .before .before .u16-or .ensures .0, ← c .before .before .before .before .u16-or2 .ensures .0, ← c .before .before .before .u16-or3 .ensures .0, ← c .before .before .constant-offsets .ensures, ← c .before .verb-offsets .ensures, ← c .assertion-offsets .ensures)))
+    (λ c.
+    let verb-offsets = c .before in
+    let constant-offsets = verb-offsets .before in
+    let u16-or3 = constant-offsets .before in
+    let u16-or2 = u16-or3 .before in
+    let u16-or = u16-or2 .before in
+    rw (← u16-or .u16-or .ensures .0, ← u16-or2 .u16-or2 .ensures .0, ← u16-or3 .u16-or3 .ensures .0)
+    (rw (← constant-offsets .constant-offsets .ensures, ← verb-offsets .verb-offsets .ensures, ← c .assertion-offsets .ensures))))

@@ -12,8 +12,17 @@ unfolding constantsFrom
 headed-spec = tie.close (tie.spec
     (λ c κs. search needs)
     (λ c. search needs)
-    (λ c κs. (c .before .before .before .before .before .pre, list-next _ _ _ _ _ _ (constant-reads (c .before .before .before .before .before .args .s .now)) _ _ _ (c .before .before .before .constants .ensures) (c .before .p .given .1)))
+    (λ c κs.
+    let p = c .before in
+    let constants = p .before .before in
+    let entry = constants .before .before in
+    (entry .pre, list-next _ _ _ _ _ _ (constant-reads (entry .args .s .now)) _ _ _ (constants .constants .ensures) (p .p .given .1)))
     (λ c. search needs)
     (λ c κs. search needs)
-    (λ c. then-taken _ _ _ _ _ (list-next _ _ _ _ _ _ (constant-reads (c .before .before .before .before .before .before .args .s .now)) _ _ _ (c .before .before .before .before .constants .ensures) (c .before .before .p .given .1)) (c .with-constants .ensures))
+    (λ c.
+    let p = c .before .before in
+    let constants = p .before .before in
+    let entry = constants .before .before in
+    then-taken _ _ _ _ _ (list-next _ _ _ _ _ _ (constant-reads (entry .args .s .now)) _ _ _ (constants .constants .ensures) (p .p .given .1))
+    (c .with-constants .ensures))
     (λ c. search (then-refused, needs)))

@@ -14,4 +14,7 @@ label-spec = tie.close (tie.spec
     (λ c. found c .ordered)
     (λ c. found c .ordered)
     (λ c. found c .inside)
-    (λ c. ap (slice (c .before .before .before .args .s .now)) (c .before .label-part .ensures) ∙ label-is (c .before .before .before .args .s .now) (c .before .before .before .args .constant)))
+    (λ c.
+    let label-part = c .before in
+    let entry = label-part .before .before in
+    ap (slice (entry .args .s .now)) (label-part .label-part .ensures) ∙ label-is (entry .args .s .now) (entry .args .constant)))

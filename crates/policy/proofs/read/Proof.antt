@@ -7,29 +7,11 @@ use Rattle.wire.proofs.Reading.{via-not, via-not′}
 use Rattle.policy.proofs.PolicyFacts.{no-version, no-length, header-right}
 use Rattle.policy.proofs.read.Statement.{statement}
 use Rattle.policy.proofs.read.Tie as tie
-use Rattle.policy.proofs.read.Reads as reads
-use Rattle.policy.proofs.read.Lts as lts
-use Rattle.policy.proofs.headed.Reads as headed-reads
-use Rattle.policy.proofs.refused.Reads as refused-reads
-use Rattle.policy.proofs.slices.length_right.Reads as length-right-reads
-use Rattle.policy.proofs.slices.version_there.Reads as version-there-reads
-
-version-there-requires : tie.Need-version-there-requires
-version-there-requires c κs = search needs
-
-refused-requires : tie.Need-refused-requires
-refused-requires c κs = search needs
 
 -- no version
 returns : tie.Need-returns
 unfolding computedPolicy
 returns c = rw policy-is (no-version _ _ _ (via-not (c .before .before .version-there .ensures) (c .before .if1 .taken)) (c .refused .ensures))
-
-length-right-requires : tie.Need-length-right-requires
-length-right-requires c κs = search needs
-
-refused-requires-2 : tie.Need-refused-requires-2
-refused-requires-2 c κs = search needs
 
 -- a wrong length
 returns-2 : tie.Need-returns-2
@@ -56,11 +38,11 @@ pub read-spec : {M : Type 1} → statement M
 read-spec =
     tie.close
     (tie.spec
-    version-there-requires
-    refused-requires
+    (λ c κs. search needs)
+    (λ c κs. search needs)
     returns
-    length-right-requires
-    refused-requires-2
+    (λ c κs. search needs)
+    (λ c κs. search needs)
     returns-2
     headed-requires
     returns-3)

@@ -73,7 +73,10 @@ returns-2 c =
 pub with-verbs-spec : {M : Type 1} → statement M
 with-verbs-spec = tie.close (tie.spec
     (λ c κs. search needs)
-    (λ c κs. let P = c .before .before .pre in let k = constants-counted _ _ (P .1) .most in (omega (arith, c .u16-or .ensures .0), omega (arith, c .u16-or .ensures .0)))
+    (λ c κs.
+    let P = c .before .before .pre in
+    let k = constants-counted _ _ (P .1) .most in
+    (omega (arith, c .u16-or .ensures .0), omega (arith, c .u16-or .ensures .0)))
     (λ c κs. let P = c .before .before .before .pre in omega (arith, constants-within _ _ (P .1)))
     (λ c. let P = c .before .before .before .before .pre in omega (arith, constants-within _ _ (P .1)))
     signatures-requires

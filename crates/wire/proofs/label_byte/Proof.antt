@@ -1,7 +1,6 @@
 use borrow.Author.Needs.{needs}
 use Rattle.wire.proofs.label_byte.Statement.{statement}
 use Rattle.wire.proofs.label_byte.Tie as tie
-use Rattle.wire.proofs.byte.Reads as byte-reads
 use Rattle.wire.proofs.Reading.{reading}
 use native.Mathlib.Omega.{arith}
 

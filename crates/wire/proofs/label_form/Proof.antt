@@ -1,7 +1,6 @@
 use borrow.Author.Needs.{needs}
 use Rattle.wire.proofs.label_form.Statement.{statement}
 use Rattle.wire.proofs.label_form.Tie as tie
-use Rattle.wire.proofs.label_bytes.Reads as label-bytes-reads
 use Rattle.wire.proofs.Reading.{reading}
 use native.Mathlib.Omega.{arith}
 use Rattle.model.specs.Forms.{labelForm}

@@ -7,20 +7,6 @@ use Rattle.engine.proofs.MarkLaws.{accepted-words, request-words}
 use borrow.Author.Needs.{needs}
 use Rattle.engine.proofs.marking.accepted.Statement.{statement}
 use Rattle.engine.proofs.marking.accepted.Tie as tie
-use Rattle.engine.proofs.marking.accepted.Reads as reads
-use Rattle.engine.proofs.marking.accepted.Lts as lts
-use Rattle.engine.proofs.marking.mark_reach.Reads as mark-reach-reads
-use Rattle.engine.proofs.numbers.refused.Reads as refused-reads
-use Rattle.request.proofs.read.Reads as read-reads
-
-slice-aggregate-read : tie.Need-slice-aggregate-read
-slice-aggregate-read c = search needs
-
-slice-aggregate-read-2 : tie.Need-slice-aggregate-read-2
-slice-aggregate-read-2 c = search needs
-
-read-requires : tie.Need-read-requires
-read-requires c κs = search needs
 
 mark-reach-requires : tie.Need-mark-reach-requires
 mark-reach-requires c κs =
@@ -31,12 +17,6 @@ mark-reach-requires c κs =
     let z : d .result .refusal ≡ 0 = search needs in
     let t = takes (args .policy .now) (args .request .now) (args .x) (entry .pre .0) (entry .pre .1) (d .result) (d .ensures .0) z (d .ensures .1 z) in
     ((t .0, t .1, t .2 .accepts), t .2 .short)
-
-refused-requires : tie.Need-refused-requires
-refused-requires c κs = search needs
-
-same-length : tie.Need-same-length
-same-length c = search needs
 
 returns : tie.Need-returns
 returns c =
@@ -51,9 +31,6 @@ returns c =
       c .refused .ensures ∙ ap refusalOf words,
       marked .mark-reach .ensures (t .0) (t .1) (t .2 .accepts) ∙ ap (λ (κ : Reached). κ .marks) words,
     )
-
-refused-requires-2 : tie.Need-refused-requires-2
-refused-requires-2 c κs = search needs
 
 returns-2 : tie.Need-returns-2
 returns-2 c =
@@ -72,12 +49,12 @@ pub accepted-spec : {M : Type 1} → statement M
 accepted-spec =
     tie.close
     (tie.spec
-    slice-aggregate-read
-    slice-aggregate-read-2
-    read-requires
+    (λ c. search needs)
+    (λ c. search needs)
+    (λ c κs. search needs)
     mark-reach-requires
-    refused-requires
-    same-length
+    (λ c κs. search needs)
+    (λ c. search needs)
     returns
-    refused-requires-2
+    (λ c κs. search needs)
     returns-2)

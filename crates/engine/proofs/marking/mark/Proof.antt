@@ -8,9 +8,6 @@ use borrow.Author.Needs.{needs}
 use Rattle.engine.proofs.MarkLaws.{written, written-next, written-all}
 use Rattle.engine.proofs.marking.mark.Statement.{statement}
 use Rattle.engine.proofs.marking.mark.Tie as tie
-use Rattle.engine.proofs.marking.mark.Reads as reads
-use Rattle.engine.proofs.marking.mark.Lts as lts
-use Rattle.wire.proofs.u8_or.Reads as u8-or-reads
 
 abbrev Inv-loop : tie.InvT-loop
 Inv-loop reach marks₀ i₀ marks i = (i ≤ length marks₀) × (marks ≡ written reach marks₀ i) × (length marks ≡ length marks₀)
@@ -21,14 +18,8 @@ abbrev μ-loop : tie.MeasureT-loop
 loop-holds : tie.Need-loop-holds Inv-loop μ-loop
 loop-holds c = (omega arith, refl, refl)
 
-u8-or-requires : tie.Need-u8-or-requires Inv-loop μ-loop
-u8-or-requires c κs = search needs
-
 slice-write-marks : tie.Need-slice-write-marks Inv-loop μ-loop
 slice-write-marks c = omega (arith, c .before .before .loop .inv .2)
-
-add-i : tie.Need-add-i Inv-loop μ-loop
-add-i c = omega arith
 
 loop-less : tie.Need-loop-less Inv-loop μ-loop
 loop-less c = omega (arith, c .before .before .loop .inv .2)
@@ -44,9 +35,6 @@ loop-again c =
       rw length-set (loop .inv .2),
     )
 
-same-length : tie.Need-same-length Inv-loop μ-loop
-same-length c = search needs
-
 returns : tie.Need-returns Inv-loop μ-loop
 returns c =
     let entry = c .before .before .before .before in
@@ -60,10 +48,10 @@ mark-spec =
     Inv-loop
     μ-loop
     loop-holds
-    u8-or-requires
+    (λ c κs. search needs)
     slice-write-marks
-    add-i
+    (λ c. omega arith)
     loop-less
     loop-again
-    same-length
+    (λ c. search needs)
     returns)

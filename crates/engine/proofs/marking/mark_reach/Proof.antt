@@ -9,26 +9,9 @@ use Rattle.engine.proofs.MarkLaws.{bytes-marks, reach-marks}
 use borrow.Author.Needs.{needs}
 use Rattle.engine.proofs.marking.mark_reach.Statement.{statement}
 use Rattle.engine.proofs.marking.mark_reach.Tie as tie
-use Rattle.engine.proofs.marking.mark_reach.Reads as reads
-use Rattle.engine.proofs.marking.mark_reach.Lts as lts
-use Rattle.engine.proofs.marking.mark.Reads as mark-reads
-use Rattle.engine.proofs.steps.asked.Reads as asked-reads
-use Rattle.engine.proofs.steps.reached.Reads as reached-reads
-
-asked-requires : tie.Need-asked-requires
-asked-requires c κs = search needs
 
 reached-requires : tie.Need-reached-requires
 reached-requires c κs = let accepts = c .before .before .before .before .pre .0 .2 in (accepts .index, accepted-answer accepts)
-
-slice-aggregate-mark : tie.Need-slice-aggregate-mark
-slice-aggregate-mark c = search needs
-
-mark-requires : tie.Need-mark-requires
-mark-requires c κs = search needs
-
-same-length : tie.Need-same-length
-same-length c = search needs
 
 returns : tie.Need-returns
 returns c =
@@ -46,9 +29,9 @@ pub mark-reach-spec : {M : Type 1} → statement M
 mark-reach-spec =
     tie.close
     (tie.spec
-    asked-requires
+    (λ c κs. search needs)
     reached-requires
-    slice-aggregate-mark
-    mark-requires
-    same-length
+    (λ c. search needs)
+    (λ c κs. search needs)
+    (λ c. search needs)
     returns)

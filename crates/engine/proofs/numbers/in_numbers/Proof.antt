@@ -9,10 +9,6 @@ use Rattle.engine.specs.Numbers.{numbersOf}
 use borrow.Author.Needs.{needs}
 use Rattle.engine.proofs.numbers.in_numbers.Statement.{statement}
 use Rattle.engine.proofs.numbers.in_numbers.Tie as tie
-use Rattle.engine.proofs.numbers.in_numbers.Reads as reads
-use Rattle.engine.proofs.numbers.in_numbers.Lts as lts
-use Rattle.engine.proofs.numbers.refused.Reads as refused-reads
-use Rattle.engine.proofs.numbers.told.Reads as told-reads
 
 -- facts and rounds fit the C interface's 32 bits
 abbrev Small : Outcome → Type 0
@@ -24,38 +20,11 @@ small e p = subst Small e p
 same : {o o′ : Outcome} → o ≡ o′ → numbersOf (reportOf o′ [] []) ≡ numbersOf (reportOf o [] [])
 same e = ap (λ (o : Outcome). numbersOf (reportOf o [] [])) (sym e)
 
-enum-known-o : tie.Need-enum-known-o
-enum-known-o c = search needs
-
 told-requires : tie.Need-told-requires
 told-requires c κs = small (c .before .o .given .1) (c .before .before .before .pre)
 
-enum-known-o-2 : tie.Need-enum-known-o-2
-enum-known-o-2 c = search needs
-
 told-requires-2 : tie.Need-told-requires-2
 told-requires-2 c κs = small (c .before .o2 .given .1) (c .before .before .before .pre)
-
-enum-known-o-3 : tie.Need-enum-known-o-3
-enum-known-o-3 c = search needs
-
-refused-requires : tie.Need-refused-requires
-refused-requires c κs = search needs
-
-enum-known-o-4 : tie.Need-enum-known-o-4
-enum-known-o-4 c = search needs
-
-refused-requires-2 : tie.Need-refused-requires-2
-refused-requires-2 c κs = search needs
-
-enum-told : tie.Need-enum-told
-enum-told c = search needs
-
-refused-requires-3 : tie.Need-refused-requires-3
-refused-requires-3 c κs = search needs
-
-enum-known-o-5 : tie.Need-enum-known-o-5
-enum-known-o-5 c = search needs
 
 refused-requires-4 : tie.Need-refused-requires-4
 refused-requires-4 c κs = small (c .before .o5 .given .1) (c .before .before .before .pre)
@@ -82,17 +51,17 @@ pub in-numbers-spec : {M : Type 1} → statement M
 in-numbers-spec =
     tie.close
     (tie.spec
-    enum-known-o
+    (λ c. search needs)
     told-requires
-    enum-known-o-2
+    (λ c. search needs)
     told-requires-2
-    enum-known-o-3
-    refused-requires
-    enum-known-o-4
-    refused-requires-2
-    enum-told
-    refused-requires-3
-    enum-known-o-5
+    (λ c. search needs)
+    (λ c κs. search needs)
+    (λ c. search needs)
+    (λ c κs. search needs)
+    (λ c. search needs)
+    (λ c κs. search needs)
+    (λ c. search needs)
     refused-requires-4
     returns
     returns-2

@@ -34,18 +34,20 @@ alike-spec = tie.close (tie.spec
       number-five _ _ h
           (ap hasLabel (sym (c .before .before .before .before .byte .ensures .0)) ∙ via (c .before .has-label .ensures) (c .if2 .left)),
     ))
-    (λ c. let h = c .before .before .before .before .before .before .before .pre .1 in omega (
-      arith,
-      constant-within _ _ h,
-      number-five _ _ h
-          (ap hasLabel (sym (c .before .before .before .before .before .byte .ensures .0)) ∙ via (c .before .before .has-label .ensures) (c .before .if2 .left)),
-    ))
-    (λ c κs. let h = c .before .before .before .before .before .before .before .pre .1 in omega (
-      arith,
-      constant-within _ _ h,
-      number-five _ _ h
-          (ap hasLabel (sym (c .before .before .before .before .before .byte .ensures .0)) ∙ via (c .before .before .has-label .ensures) (c .before .if2 .left)),
-    ))
+    (λ c.
+    let test2 = c .before in
+    let has-label = test2 .before in
+    let byte = has-label .before .before .before in
+    let h = byte .before .before .pre .1 in
+    let number = ap hasLabel (sym (byte .byte .ensures .0)) ∙ via (has-label .has-label .ensures) (test2 .if2 .left) in
+    omega (arith, constant-within _ _ h, number-five _ _ h number))
+    (λ c κs.
+    let test2 = c .before in
+    let has-label = test2 .before in
+    let byte = has-label .before .before .before in
+    let h = byte .before .before .pre .1 in
+    let number = ap hasLabel (sym (byte .byte .ensures .0)) ∙ via (has-label .has-label .ensures) (test2 .if2 .left) in
+    omega (arith, constant-within _ _ h, number-five _ _ h number))
     (λ c. alike-numbers _ _ _ _ (sym (c .before .before .before .before .before .before .byte .ensures .0) ∙ c .before .before .before .before .if1 .taken
     ∙ c .before .before .before .before .before .byte2 .ensures .0)
     (ap hasLabel (sym (c .before .before .before .before .before .before .byte .ensures .0)) ∙ via (c .before .before .before .has-label .ensures)

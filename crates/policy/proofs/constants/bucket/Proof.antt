@@ -8,12 +8,6 @@ use Rattle.policy.proofs.Seeking.{label-bucket, number-bucket}
 use borrow.Author.Needs.{needs}
 use Rattle.policy.proofs.constants.bucket.Statement.{statement}
 use Rattle.policy.proofs.constants.bucket.Tie as tie
-use Rattle.policy.proofs.constants.bucket.Reads as reads
-use Rattle.policy.proofs.constants.bucket.Lts as lts
-use Rattle.labels.proofs.hash.Reads as hash-reads
-use Rattle.policy.proofs.constants.has_label.Reads as has-label-reads
-use Rattle.wire.proofs.byte.Reads as byte-reads
-use Rattle.wire.proofs.u32_at.Reads as u32-at-reads
 
 add-byte : tie.Need-add-byte
 unfolding itemEnd
@@ -26,9 +20,6 @@ unfolding itemEnd
 byte-requires c κs =
     let entry = c .before in let form = entry .pre in
     omega (arith, constant-within _ _ form, constant-two _ _ form)
-
-has-label-requires : tie.Need-has-label-requires
-has-label-requires c κs = search needs
 
 add-hash : tie.Need-add-hash
 unfolding itemEnd
@@ -90,7 +81,7 @@ bucket-spec =
     (tie.spec
     add-byte
     byte-requires
-    has-label-requires
+    (λ c κs. search needs)
     add-hash
     byte-requires-2
     sub-hash

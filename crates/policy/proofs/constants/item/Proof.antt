@@ -11,9 +11,6 @@ use Rattle.policy.proofs.ItemFacts.{item-form, item-alike, item-new}
 use Rattle.policy.proofs.constants.item.Statement.{statement}
 use Rattle.policy.proofs.constants.item.Tie as tie
 
-constant-form-requires : tie.Need-constant-form-requires
-constant-form-requires c κs = search needs
-
 seen-requires : tie.Need-seen-requires
 seen-requires c κs =
     let given = c .before .before .before .before .before .pre in
@@ -56,7 +53,7 @@ pub item-spec : {M : Type 1} → statement M
 item-spec =
     tie.close
     (tie.spec
-    constant-form-requires
+    (λ c κs. search needs)
     seen-requires
     returns
     add-t7

@@ -5,28 +5,6 @@ use Rattle.chains.specs.Chains.{linked}
 use borrow.Author.Needs.{needs}
 use Rattle.policy.proofs.constants.list.Statement.{statement}
 use Rattle.policy.proofs.constants.list.Tie as tie
-use Rattle.policy.proofs.constants.list.Reads as reads
-use Rattle.policy.proofs.constants.list.Lts as lts
-use Rattle.chains.proofs.add.Reads as add-reads
-use Rattle.policy.proofs.constants.bucket.Reads as bucket-reads
-
-mul-ats : tie.Need-mul-ats
-mul-ats c = search needs
-
-slice-write-ats : tie.Need-slice-write-ats
-slice-write-ats c = search needs
-
-bucket-requires : tie.Need-bucket-requires
-bucket-requires c κs = search needs
-
-add-requires : tie.Need-add-requires
-add-requires c κs = search needs
-
-same-length : tie.Need-same-length
-same-length c = search needs
-
-same-length-2 : tie.Need-same-length-2
-same-length-2 c = search needs
 
 returns : tie.Need-returns
 returns c =
@@ -39,10 +17,10 @@ pub list-spec : {M : Type 1} → statement M
 list-spec =
     tie.close
     (tie.spec
-    mul-ats
-    slice-write-ats
-    bucket-requires
-    add-requires
-    same-length
-    same-length-2
+    (λ c. search needs)
+    (λ c. search needs)
+    (λ c κs. search needs)
+    (λ c κs. search needs)
+    (λ c. search needs)
+    (λ c. search needs)
     returns)

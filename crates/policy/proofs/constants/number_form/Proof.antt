@@ -1,8 +1,6 @@
 use borrow.Author.Needs.{needs}
 use Rattle.policy.proofs.constants.number_form.Statement.{statement}
 use Rattle.policy.proofs.constants.number_form.Tie as tie
-use Rattle.wire.proofs.byte.Reads as byte-reads
-use Rattle.wire.proofs.u32_at.Reads as u32-at-reads
 use Rattle.wire.proofs.Reading.{reading}
 use native.Mathlib.Omega.{arith}
 use Rattle.model.specs.Forms.{numberForm}

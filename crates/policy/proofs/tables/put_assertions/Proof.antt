@@ -11,7 +11,9 @@ use Rattle.policy.proofs.tables.put_assertions.Statement.{statement}
 use Rattle.policy.proofs.tables.put_assertions.Tie as tie
 
 abbrev Inv-loop : tie.InvT-loop
-Inv-loop s n p t₀ i₀ at₀ t i at = (i ≤ n) × (length t ≡ length t₀) × (at + 65537 * (n - i) ≤ farthest) × (sets t i (startsAt (assertionEnd s) (n - i) at) ≡ sets t₀ 0 (startsAt (assertionEnd s) n p))
+Inv-loop s n p t₀ i₀ at₀ t i at =
+    (i ≤ n) × (length t ≡ length t₀) × (at + 65537 * (n - i) ≤ farthest)
+    × (sets t i (startsAt (assertionEnd s) (n - i) at) ≡ sets t₀ 0 (startsAt (assertionEnd s) n p))
 
 abbrev μ-loop : tie.MeasureT-loop
 μ-loop s n p t₀ i₀ at₀ t i at = n - i
@@ -26,6 +28,10 @@ put-assertions-spec = tie.close (tie.spec Inv-loop μ-loop
     (λ c. omega arith)
     (λ c. omega arith)
     (λ c. omega arith)
-    (λ c. let l = c .before .before .loop in (omega arith, rw length-set (l .inv .1), omega arith, sym (left-starts (assertionEnd (c .before .before .before .before .before .args .s .now)) _ _ _ _ _ (omega arith) (assertion-next _ _ _ (c .u16-or .ensures .0))) ∙ l .inv .3))
+    (λ c.
+    let l = c .before .before .loop in
+    let s = c .before .before .before .before .before .args .s .now in
+    let next = left-starts (assertionEnd s) _ _ _ _ _ (omega arith) (assertion-next _ _ _ (c .u16-or .ensures .0)) in
+    (omega arith, rw length-set (l .inv .1), omega arith, sym next ∙ l .inv .3))
     (λ c. c .before .loop .inv .1)
     (λ c. let l = c .before .loop in sym (done-starts (assertionEnd (c .before .before .before .before .args .s .now)) _ _ _ _ _ (omega arith)) ∙ l .inv .3))

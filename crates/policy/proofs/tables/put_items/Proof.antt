@@ -6,12 +6,14 @@ use lib.Seq.{sets}
 use Rattle.wire.specs.Budget.{farthest}
 use Rattle.policy.specs.Items.{startsAt}
 use Rattle.model.specs.Readings.{itemEnd}
-use Rattle.policy.proofs.TableLaws.{all-starts, left-starts, done-starts, item-next}
+use Rattle.policy.proofs.ListFacts.{item-end}
+use Rattle.policy.proofs.TableLaws.{all-starts, left-starts, done-starts}
 use Rattle.policy.proofs.tables.put_items.Statement.{statement}
 use Rattle.policy.proofs.tables.put_items.Tie as tie
 
 abbrev Inv-loop : tie.InvT-loop
-Inv-loop s n p t₀ i₀ at₀ t i at = (i ≤ n) × (length t ≡ length t₀) × (at + 256 * (n - i) ≤ farthest) × (sets t i (startsAt (itemEnd s) (n - i) at) ≡ sets t₀ 0 (startsAt (itemEnd s) n p))
+Inv-loop s n p t₀ i₀ at₀ t i at =
+    (i ≤ n) × (length t ≡ length t₀) × (at + 256 * (n - i) ≤ farthest) × (sets t i (startsAt (itemEnd s) (n - i) at) ≡ sets t₀ 0 (startsAt (itemEnd s) n p))
 
 abbrev μ-loop : tie.MeasureT-loop
 μ-loop s n p t₀ i₀ at₀ t i at = n - i
@@ -26,6 +28,10 @@ put-items-spec = tie.close (tie.spec Inv-loop μ-loop
     (λ c. omega arith)
     (λ c. omega arith)
     (λ c. omega arith)
-    (λ c. let l = c .before .before .loop in (omega arith, rw length-set (l .inv .1), omega arith, sym (left-starts (itemEnd (c .before .before .before .before .before .args .s .now)) _ _ _ _ _ (omega arith) (item-next _ _ _ (c .byte-or .ensures .0))) ∙ l .inv .3))
+    (λ c.
+    let l = c .before .before .loop in
+    let s = c .before .before .before .before .before .args .s .now in
+    let next = left-starts (itemEnd s) _ _ _ _ _ (omega arith) (item-end _ _ _ (c .byte-or .ensures .0)) in
+    (omega arith, rw length-set (l .inv .1), omega arith, sym next ∙ l .inv .3))
     (λ c. c .before .loop .inv .1)
     (λ c. let l = c .before .loop in sym (done-starts (itemEnd (c .before .before .before .before .args .s .now)) _ _ _ _ _ (omega arith)) ∙ l .inv .3))

@@ -8,12 +8,15 @@ use Rattle.policy.specs.Items.{startsAt}
 use mathlib.Core.List.{map}
 use Rattle.model.specs.Readings.{itemEnd}
 use Rattle.policy.specs.Index.{kindOf}
-use Rattle.policy.proofs.TableLaws.{all-map, left-map, done-map, item-next, kind-at}
+use Rattle.policy.proofs.ListFacts.{item-end}
+use Rattle.policy.proofs.TableLaws.{all-map, left-map, done-map, kind-at}
 use Rattle.policy.proofs.tables.put_kinds.Statement.{statement}
 use Rattle.policy.proofs.tables.put_kinds.Tie as tie
 
 abbrev Inv-loop : tie.InvT-loop
-Inv-loop s n p t₀ i₀ at₀ t i at = (i ≤ n) × (length t ≡ length t₀) × (at + 256 * (n - i) + 2 ≤ farthest) × (sets t i (map (kindOf s) (startsAt (itemEnd s) (n - i) at)) ≡ sets t₀ 0 (map (kindOf s) (startsAt (itemEnd s) n p)))
+Inv-loop s n p t₀ i₀ at₀ t i at =
+    (i ≤ n) × (length t ≡ length t₀) × (at + 256 * (n - i) + 2 ≤ farthest)
+    × (sets t i (map (kindOf s) (startsAt (itemEnd s) (n - i) at)) ≡ sets t₀ 0 (map (kindOf s) (startsAt (itemEnd s) n p)))
 
 abbrev μ-loop : tie.MeasureT-loop
 μ-loop s n p t₀ i₀ at₀ t i at = n - i
@@ -29,6 +32,14 @@ put-kinds-spec = tie.close (tie.spec Inv-loop μ-loop
     (λ c. omega arith)
     (λ c. omega arith)
     (λ c. omega arith)
-    (λ c. let l = c .before .before .before .loop in (omega arith, rw length-set (l .inv .1), omega arith, sym (left-map (itemEnd (c .before .before .before .before .before .before .args .s .now)) (kindOf (c .before .before .before .before .before .before .args .s .now)) _ _ _ _ _ _ (omega arith) (item-next _ _ _ (c .byte-or .ensures .0)) (kind-at _ _ _ (c .before .u8-or .ensures))) ∙ l .inv .3))
+    (λ c.
+    let l = c .before .before .before .loop in
+    let s = c .before .before .before .before .before .before .args .s .now in
+    let end = item-end _ _ _ (c .byte-or .ensures .0) in
+    let next = left-map (itemEnd s) (kindOf s) _ _ _ _ _ _ (omega arith) end (kind-at _ _ _ (c .before .u8-or .ensures)) in
+    (omega arith, rw length-set (l .inv .1), omega arith, sym next ∙ l .inv .3))
     (λ c. c .before .loop .inv .1)
-    (λ c. let l = c .before .loop in sym (done-map (itemEnd (c .before .before .before .before .args .s .now)) (kindOf (c .before .before .before .before .args .s .now)) _ _ _ _ _ (omega arith)) ∙ l .inv .3))
+    (λ c.
+    let l = c .before .loop in
+    let s = c .before .before .before .before .args .s .now in
+    sym (done-map (itemEnd s) (kindOf s) _ _ _ _ _ (omega arith)) ∙ l .inv .3))

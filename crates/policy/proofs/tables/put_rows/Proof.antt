@@ -8,12 +8,15 @@ use Rattle.policy.specs.Items.{startsAt}
 use Rattle.model.specs.Lists.{each}
 use Rattle.model.specs.Readings.{itemEnd}
 use Rattle.policy.specs.Index.{rowAt}
-use Rattle.policy.proofs.TableLaws.{all-rows, left-rows, done-rows, item-next, row-length}
+use Rattle.policy.proofs.ListFacts.{item-end}
+use Rattle.policy.proofs.TableLaws.{all-rows, left-rows, done-rows, row-length}
 use Rattle.policy.proofs.tables.put_rows.Statement.{statement}
 use Rattle.policy.proofs.tables.put_rows.Tie as tie
 
 abbrev Inv-loop : tie.InvT-loop
-Inv-loop s n p t₀ i₀ at₀ t i at = (i ≤ n) × (length t ≡ length t₀) × (at + 256 * (n - i) + 4 ≤ farthest) × (sets t (4 * i + 4) (each (startsAt (itemEnd s) (n - i) at) (rowAt s)) ≡ sets t₀ 4 (each (startsAt (itemEnd s) n p) (rowAt s)))
+Inv-loop s n p t₀ i₀ at₀ t i at =
+    (i ≤ n) × (length t ≡ length t₀) × (at + 256 * (n - i) + 4 ≤ farthest)
+    × (sets t (4 * i + 4) (each (startsAt (itemEnd s) (n - i) at) (rowAt s)) ≡ sets t₀ 4 (each (startsAt (itemEnd s) n p) (rowAt s)))
 
 abbrev μ-loop : tie.MeasureT-loop
 μ-loop s n p t₀ i₀ at₀ t i at = n - i
@@ -43,6 +46,14 @@ put-rows-spec = tie.close (tie.spec Inv-loop μ-loop
     (λ c. omega arith)
     (λ c. omega arith)
     (λ c. omega arith)
-    (λ c. let l = c .before .before .before .loop in (omega arith, simp length-set (l .inv .1), omega arith, sym (left-rows (itemEnd (c .before .before .before .before .before .before .args .s .now)) (rowAt (c .before .before .before .before .before .before .args .s .now)) _ _ _ _ _ _ (omega arith) (item-next _ _ _ (c .byte-or .ensures .0)) (c .before .row .ensures) (rw (c .before .row .ensures) (row-length _ _))) ∙ l .inv .3))
+    (λ c.
+    let l = c .before .before .before .loop in
+    let s = c .before .before .before .before .before .before .args .s .now in
+    let row = c .before .row .ensures in
+    let next = left-rows (itemEnd s) (rowAt s) _ _ _ _ _ _ (omega arith) (item-end _ _ _ (c .byte-or .ensures .0)) row (rw row (row-length _ _)) in
+    (omega arith, simp length-set (l .inv .1), omega arith, sym next ∙ l .inv .3))
     (λ c. c .before .loop .inv .1)
-    (λ c. let l = c .before .loop in sym (done-rows (itemEnd (c .before .before .before .before .args .s .now)) (rowAt (c .before .before .before .before .args .s .now)) _ _ _ _ _ (omega arith)) ∙ l .inv .3))
+    (λ c.
+    let l = c .before .loop in
+    let s = c .before .before .before .before .args .s .now in
+    sym (done-rows (itemEnd s) (rowAt s) _ _ _ _ _ (omega arith)) ∙ l .inv .3))

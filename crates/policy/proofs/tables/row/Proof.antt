@@ -25,4 +25,8 @@ row-spec = tie.close (tie.spec
     (λ c κs. search needs)
     (λ c. search needs)
     (λ c κs. search needs)
-    (λ c. rw (← c .before .before .before .before .before .before .byte-or .ensures .0, ← c .before .before .u8-or4 .ensures, ← c .before .u8-or5 .ensures, ← c .u8-or6 .ensures) (search (reading, needs))))
+    (λ c.
+    let u8-or5 = c .before in
+    let u8-or4 = u8-or5 .before in
+    let byte-or = u8-or4 .before .before .before .before in
+    rw (← byte-or .byte-or .ensures .0, ← u8-or4 .u8-or4 .ensures, ← u8-or5 .u8-or5 .ensures, ← c .u8-or6 .ensures) (search (reading, needs))))

@@ -28,6 +28,18 @@ alike-spec = tie.close (tie.spec
       let h = c .before .before .before .before .before .before .pre .1 in omega
           (arith, verb-within _ _ h, verb-label _ _ h),
     ))
-    (λ c. verbs-alike _ _ _ _ (rw (← c .before .before .before .before .before .byte .ensures .0, ← c .before .before .before .before .byte2 .ensures .0, ← c .before .before .before .byte3 .ensures .0, ← c .before .before .byte4 .ensures .0) (labels-same _ _ _ _ _ _ (omega arith) (c .same-bytes .ensures))))
-    (λ c. let h = verb-label _ _ (c .before .before .before .before .before .before .pre .1) in verbs-alike _ _ _ _
-    (rw (← c .before .before .before .before .byte .ensures .0, ← c .before .before .before .byte2 .ensures .0, ← c .before .before .byte3 .ensures .0, ← c .before .byte4 .ensures .0) (labels-differ _ _ _ _ _ (λ e. c .if1 .left (omega arith))))))
+    (λ c.
+    let byte4 = c .before .before in
+    let byte3 = byte4 .before in
+    let byte2 = byte3 .before in
+    let byte = byte2 .before in
+    verbs-alike _ _ _ _ (rw (← byte .byte .ensures .0, ← byte2 .byte2 .ensures .0, ← byte3 .byte3 .ensures .0, ← byte4 .byte4 .ensures .0)
+    (labels-same _ _ _ _ _ _ (omega arith) (c .same-bytes .ensures))))
+    (λ c.
+    let byte4 = c .before in
+    let byte3 = byte4 .before in
+    let byte2 = byte3 .before in
+    let byte = byte2 .before in
+    let h = verb-label _ _ (byte .before .before .pre .1) in
+    verbs-alike _ _ _ _ (rw (← byte .byte .ensures .0, ← byte2 .byte2 .ensures .0, ← byte3 .byte3 .ensures .0, ← byte4 .byte4 .ensures .0)
+    (labels-differ _ _ _ _ _ (λ e. c .if1 .left (omega arith))))))

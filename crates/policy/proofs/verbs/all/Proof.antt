@@ -10,15 +10,6 @@ use Rattle.policy.proofs.Seeking.{fresh}
 use borrow.Author.Needs.{needs}
 use Rattle.policy.proofs.verbs.all.Statement.{statement}
 use Rattle.policy.proofs.verbs.all.Tie as tie
-use Rattle.policy.proofs.verbs.all.Reads as reads
-use Rattle.policy.proofs.verbs.all.Lts as lts
-use Rattle.policy.proofs.verbs.items.Reads as items-reads
-
-slice-aggregate-items : tie.Need-slice-aggregate-items
-slice-aggregate-items c = search needs
-
-slice-aggregate-items-2 : tie.Need-slice-aggregate-items-2
-slice-aggregate-items-2 c = search needs
 
 items-requires : tie.Need-items-requires
 unfolding endsBy
@@ -36,4 +27,4 @@ returns c =
 
 pub all-spec : {M : Type 1} → statement M
 all-spec =
-    tie.close (tie.spec slice-aggregate-items slice-aggregate-items-2 items-requires returns)
+    tie.close (tie.spec (λ c. search needs) (λ c. search needs) items-requires returns)

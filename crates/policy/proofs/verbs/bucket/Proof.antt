@@ -5,10 +5,6 @@ use Rattle.policy.proofs.FormFacts.{verb-within, verb-label}
 use Rattle.policy.proofs.Seeking.{name-bucket}
 use Rattle.policy.proofs.verbs.bucket.Statement.{statement}
 use Rattle.policy.proofs.verbs.bucket.Tie as tie
-use Rattle.policy.proofs.verbs.bucket.Reads as reads
-use Rattle.policy.proofs.verbs.bucket.Lts as lts
-use Rattle.labels.proofs.hash.Reads as hash-reads
-use Rattle.wire.proofs.byte.Reads as byte-reads
 
 add-byte : tie.Need-add-byte
 unfolding itemEnd

@@ -1,7 +1,6 @@
 use borrow.Author.Needs.{needs}
 use Rattle.policy.proofs.verbs.kind_form.Statement.{statement}
 use Rattle.policy.proofs.verbs.kind_form.Tie as tie
-use Rattle.wire.proofs.byte.Reads as byte-reads
 use Rattle.wire.proofs.Reading.{reading}
 use native.Mathlib.Omega.{arith}
 

@@ -11,17 +11,6 @@ use Rattle.policy.proofs.Seeking.{ends-before, listed-walk, listed-any,
 use borrow.Author.Needs.{needs}
 use Rattle.policy.proofs.verbs.seen.Statement.{statement}
 use Rattle.policy.proofs.verbs.seen.Tie as tie
-use Rattle.policy.proofs.verbs.seen.Reads as reads
-use Rattle.policy.proofs.verbs.seen.Lts as lts
-use Rattle.chains.proofs.head.Reads as head-reads
-use Rattle.policy.proofs.verbs.bucket.Reads as bucket-reads
-use Rattle.policy.proofs.verbs.chain_has.Reads as chain-has-reads
-
-bucket-requires : tie.Need-bucket-requires
-bucket-requires c κs = search needs
-
-head-requires : tie.Need-head-requires
-head-requires c κs = search needs
 
 chain-has-requires : tie.Need-chain-has-requires
 chain-has-requires c κs =
@@ -45,4 +34,4 @@ returns c =
     (λ x n. verbs-apart (verbAt s (args .q)) x (λ e. n (e ∙ sym (bucket .ensures .0))))
 
 pub seen-spec : {M : Type 1} → statement M
-seen-spec = tie.close (tie.spec bucket-requires head-requires chain-has-requires returns)
+seen-spec = tie.close (tie.spec (λ c κs. search needs) (λ c κs. search needs) chain-has-requires returns)

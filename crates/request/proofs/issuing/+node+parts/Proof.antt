@@ -17,7 +17,8 @@ use Rattle.wire.proofs.Reading.{reading}
 use native.Mathlib.Omega.{arith}
 use borrow.Author.Needs.{needs}
 use Prim.Native.Nat.{_+_, _*_}
-use Rattle.request.proofs.IssuerSteps.{issuers-deep, issuers-past, issuers-says, issuers-test, issuers-all, issuers-any, issuers-not, issuers-exists, issuers-nothing, issuers-none, issuers-more}
+use Rattle.request.proofs.IssuerSteps.{issuers-deep, issuers-past, issuers-says, issuers-test, issuers-all, issuers-any, issuers-not, issuers-exists}
+use Rattle.request.proofs.IssuerSteps.{issuers-nothing, issuers-none, issuers-more}
 
 abbrev μ-node : Measures 3 node-kinds.ps ℕ
 μ-node κs a = 512 * (a .1 .1 .1 .0)

@@ -18,7 +18,8 @@ use Rattle.wire.proofs.Reading.{reading}
 use native.Mathlib.Omega.{arith}
 use borrow.Author.Needs.{needs}
 use Prim.Native.Nat.{_+_, _*_}
-use Rattle.request.proofs.NodeSteps.{read-deep, read-past, read-broken, read-says, read-test, read-all, read-any, read-not, read-exists, read-nothing, reads-none, reads-more, reads-stop}
+use Rattle.request.proofs.NodeSteps.{read-deep, read-past, read-broken, read-says, read-test, read-all, read-any, read-not, read-exists, read-nothing}
+use Rattle.request.proofs.NodeSteps.{reads-none, reads-more, reads-stop}
 
 abbrev μ-node : Measures 3 node-kinds.ps ℕ
 μ-node κs a = 512 * (a .1 .1 .1 .0)

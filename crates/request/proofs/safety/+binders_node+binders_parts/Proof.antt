@@ -19,7 +19,8 @@ use Rattle.wire.proofs.Reading.{reading}
 use native.Mathlib.Omega.{arith}
 use borrow.Author.Needs.{needs}
 use Prim.Native.Nat.{_+_, _*_}
-use Rattle.request.proofs.SafetySteps.{via-num, via-other, binders-deep, binders-past, binders-says, binders-test, binders-all, binders-any, binders-not, binders-new, binders-old, binders-nothing, binders-none, binders-more, binders-stop}
+use Rattle.request.proofs.SafetySteps.{via-num, via-other, binders-deep, binders-past, binders-says, binders-test, binders-all, binders-any, binders-not}
+use Rattle.request.proofs.SafetySteps.{binders-new, binders-old, binders-nothing, binders-none, binders-more, binders-stop}
 
 abbrev μ-binders-node : Measures 2 binders-node-kinds.ps ℕ
 μ-binders-node κs a = 512 * (a .1 .1 .0)
@@ -100,7 +101,10 @@ pub +binders-node+binders-parts-spec : {M : Type 1} → statement M
     (λ c. omega arith)
     (λ c κs. omega arith)
     (λ c κs. omega arith)
-    (λ c. let h1 = rw (c .before .before .before .before .byte-or3 .ensures .0) at (c .before .before .before .mark-of .ensures) in let h2 = rw (c .before .with-mark .ensures, c .before .before .before .before .byte-or3 .ensures .0) at (c .binders-node2 .ensures) in search (binders-new, via-num, reading, needs))
+    (λ c.
+    let h1 = rw (c .before .before .before .before .byte-or3 .ensures .0) at (c .before .before .before .mark-of .ensures) in
+    let h2 = rw (c .before .with-mark .ensures, c .before .before .before .before .byte-or3 .ensures .0) at (c .binders-node2 .ensures) in
+    search (binders-new, via-num, reading, needs))
     (λ c κs. omega arith)
     (λ c. omega arith)
     (λ c. search (binders-says, reading, needs))
@@ -108,7 +112,9 @@ pub +binders-node+binders-parts-spec : {M : Type 1} → statement M
     (λ c. let h = rw (c .before .byte-or .ensures .0) at (c .binders-parts .ensures) in search (binders-all, reading, needs))
     (λ c. let h = rw (c .before .byte-or2 .ensures .0) at (c .binders-parts2 .ensures) in search (binders-any, reading, needs))
     (λ c. search (binders-not, reading, needs))
-    (λ c. let h = rw (c .before .before .before .byte-or3 .ensures .0) at (c .before .before .mark-of .ensures) in search (binders-old, via-other, reading, needs))
+    (λ c.
+    let h = rw (c .before .before .before .byte-or3 .ensures .0) at (c .before .before .mark-of .ensures) in
+    search (binders-old, via-other, reading, needs))
     (λ c. search (binders-nothing, reading, needs)))
     λ t. binders-parts-lts.spec (
       binders-node-below t,

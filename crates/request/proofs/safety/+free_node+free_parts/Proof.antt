@@ -20,7 +20,8 @@ use Rattle.wire.proofs.Reading.{reading}
 use native.Mathlib.Omega.{arith}
 use borrow.Author.Needs.{needs}
 use Prim.Native.Nat.{_+_, _*_}
-use Rattle.request.proofs.SafetySteps.{free-deep, free-past, free-says, free-test, free-all, free-any, free-not, free-exists, free-nothing, free-none, free-more}
+use Rattle.request.proofs.SafetySteps.{free-deep, free-past, free-says, free-test, free-all, free-any, free-not, free-exists, free-nothing, free-none}
+use Rattle.request.proofs.SafetySteps.{free-more}
 
 abbrev μ-free-node : Measures 2 free-node-kinds.ps ℕ
 μ-free-node κs a = 512 * (a .1 .1 .0)
@@ -102,7 +103,9 @@ pub +free-node+free-parts-spec : {M : Type 1} → statement M
     (λ c. let h = rw (c .before .byte-or .ensures .0) at (c .free-parts .ensures) in search (free-all, reading, needs))
     (λ c. let h = rw (c .before .byte-or2 .ensures .0) at (c .free-parts2 .ensures) in search (free-any, reading, needs))
     (λ c. search (free-not, reading, needs))
-    (λ c. let h = rw (c .before .mark-of .ensures, c .before .before .before .byte-or3 .ensures .0) at (c .with-mark .ensures) in search (free-exists, reading, needs))
+    (λ c.
+    let h = rw (c .before .mark-of .ensures, c .before .before .before .byte-or3 .ensures .0) at (c .with-mark .ensures) in
+    search (free-exists, reading, needs))
     (λ c. search (free-nothing, reading, needs)))
     λ t. free-parts-lts.spec (
       free-node-below t,

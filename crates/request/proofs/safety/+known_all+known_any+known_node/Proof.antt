@@ -28,7 +28,8 @@ use native.Mathlib.Omega.{arith}
 use borrow.Author.Needs.{needs}
 use Prim.Native.Nat.{_+_, _*_}
 use Rattle.request.proofs.SafetySteps.{via-num, via-other}
-use Rattle.request.proofs.KnownSteps.{known-deep, known-past, known-says, known-test, known-all, known-any, known-not, known-not-free, known-exists, known-again, known-nothing, all-none, all-more, all-stop, any-none, any-more, any-stop}
+use Rattle.request.proofs.KnownSteps.{known-deep, known-past, known-says, known-test, known-all, known-any, known-not, known-not-free, known-exists}
+use Rattle.request.proofs.KnownSteps.{known-again, known-nothing, all-none, all-more, all-stop, any-none, any-more, any-stop}
 
 abbrev μ-known-all : Measures 2 known-all-kinds.ps ℕ
 μ-known-all κs a = 512 * (a .1 .1 .0) + a .1 .1 .1 .0 + 1
@@ -164,7 +165,10 @@ pub +known-all+known-any+known-node-spec : {M : Type 1} → statement M
     (λ c. omega arith)
     (λ c κs. omega arith)
     (λ c κs. omega arith)
-    (λ c. let h1 = rw (c .before .before .before .before .byte-or3 .ensures .0) at (c .before .before .before .mark-of .ensures) in let h2 = rw (c .before .before .before .before .byte-or3 .ensures .0) at (c .dropped .ensures) in search (known-exists, via-num, reading, needs))
+    (λ c.
+    let h1 = rw (c .before .before .before .before .byte-or3 .ensures .0) at (c .before .before .before .mark-of .ensures) in
+    let h2 = rw (c .before .before .before .before .byte-or3 .ensures .0) at (c .dropped .ensures) in
+    search (known-exists, via-num, reading, needs))
     (λ c κs. omega arith)
     (λ c. omega arith)
     (λ c. search (known-says, reading, needs))
@@ -172,5 +176,7 @@ pub +known-all+known-any+known-node-spec : {M : Type 1} → statement M
     (λ c. let h = rw (c .before .byte-or .ensures .0) at (c .known-all .ensures) in search (known-all, reading, needs))
     (λ c. let h = rw (c .before .byte-or2 .ensures .0) at (c .known-any .ensures) in search (known-any, reading, needs))
     (λ c. search (known-not-free, reading, needs))
-    (λ c. let h = rw (c .before .before .before .byte-or3 .ensures .0) at (c .before .before .mark-of .ensures) in search (known-again, via-other, reading, needs))
+    (λ c.
+    let h = rw (c .before .before .before .byte-or3 .ensures .0) at (c .before .before .mark-of .ensures) in
+    search (known-again, via-other, reading, needs))
     (λ c. search (known-nothing, reading, needs))

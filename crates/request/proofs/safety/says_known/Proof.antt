@@ -20,4 +20,9 @@ says-known-spec =
     (λ c κs. search needs)
     (λ c κs. search needs)
     (λ c κs. search needs)
-    (λ c. let h = rw (c .before .fact-marks2 .ensures, c .before .before .none .ensures, c .before .before .before .before .before .mark-at .ensures) at (c .needed .ensures) in search (says-nested, via-other, reading, needs)))
+    (λ c.
+    let marks = c .before in
+    let none = marks .before in
+    let known = none .before .before .before in
+    let h = rw (marks .fact-marks2 .ensures, none .none .ensures, known .mark-at .ensures) at (c .needed .ensures) in
+    search (says-nested, via-other, reading, needs)))
