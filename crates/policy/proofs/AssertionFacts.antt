@@ -34,9 +34,9 @@ use Rattle.phrases.specs.Marks.{none, marked, within}
 use Rattle.phrases.proofs.Model as phrase
 use Rattle.phrases.proofs.Ends.{form-ends, forms-end, operators-regular}
 use Rattle.phrases.proofs.Sets.{marked-append, within-is}
-use Rattle.policy.specs.declared.slices.Step.{Step}
-use Rattle.policy.specs.declared.slices.Step.the-variants.{Next, Refused}
-use Rattle.policy.specs.Steps.{step}
+use Rattle.slices.specs.declared.Step.{Step}
+use Rattle.slices.specs.declared.Step.the-variants.{Next, Refused}
+use Rattle.slices.specs.Steps.{step}
 use Rattle.policy.specs.Assertions.{testsFormBy, bodyFormBy, statementFormBy, assertionFormBy, testsBy, bodyAsks, statementAsks, fitsBy, bodyMarks}
 use Rattle.policy.specs.Assertions.{headSafeBy, testsSafeBy, safeBy, judgedBy, itemBy}
 use Rattle.model.proofs.ReaderEnds.{no-broken, then-ends}

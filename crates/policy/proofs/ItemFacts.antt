@@ -12,9 +12,9 @@ use Rattle.model.specs.Readings.{itemEnd, constantAt, verbAt}
 use Rattle.model.specs.Forms.{constantForm, verbForm}
 use Rattle.model.specs.Policies.{alikeConstants, alikeVerbs, constantItem, verbItem}
 use Rattle.model.proofs.ReadFacts.{choose-yes, choose-no}
-use Rattle.policy.specs.declared.slices.Step.{Step}
-use Rattle.policy.specs.declared.slices.Step.the-variants.{Next, Refused}
-use Rattle.policy.specs.Steps.{step}
+use Rattle.slices.specs.declared.Step.{Step}
+use Rattle.slices.specs.declared.Step.the-variants.{Next, Refused}
+use Rattle.slices.specs.Steps.{step}
 use Rattle.policy.proofs.FormFacts.{constant-within, verb-within}
 use Rattle.policy.proofs.ListFacts.{Reads, T-true, step-yes, step-no, item-end}
 

@@ -16,9 +16,9 @@ use Rattle.model.specs.Readings.{itemEnd, endsBy}
 use Rattle.model.proofs.ReadFacts.{andThen-got, choose-yes}
 use Rattle.model.specs.Policies.{Item, contents, offsets, itemsFrom, listAt}
 pub use Rattle.model.proofs.Tests.{T-true}
-use Rattle.policy.specs.declared.slices.Step.{Step}
-use Rattle.policy.specs.declared.slices.Step.the-variants.{Next, Refused}
-use Rattle.policy.specs.Steps.{step, countRight}
+use Rattle.slices.specs.declared.Step.{Step}
+use Rattle.slices.specs.declared.Step.the-variants.{Next, Refused}
+use Rattle.slices.specs.Steps.{step, countRight}
 use Rattle.policy.specs.Items.{startsAt, itemsAt}
 
 -- ---- where items end

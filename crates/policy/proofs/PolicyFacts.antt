@@ -17,10 +17,10 @@ use Rattle.model.specs.Policies.{Item, contents, versionThere, lengthRight, hea
 use Rattle.model.specs.Policies.{assertionItem, Accepted, assertionsFrom, verbsFrom, constantsFrom, readPolicy}
 use Rattle.model.proofs.ReadFacts.{never, choose-yes, andThen-got}
 use Rattle.phrases.specs.Tables.{Tables}
-use Rattle.policy.specs.declared.slices.Step.{Step}
-use Rattle.policy.specs.declared.slices.Step.the-variants.{Next, Refused}
+use Rattle.slices.specs.declared.Step.{Step}
+use Rattle.slices.specs.declared.Step.the-variants.{Next, Refused}
 use Rattle.policy.specs.declared.Index.{Index}
-use Rattle.policy.specs.Steps.{step, thenStep, countRight, endedAt}
+use Rattle.slices.specs.Steps.{step, thenStep, countRight, endedAt}
 use Rattle.policy.specs.Items.{startsAt, itemsAt, constantsAt, verbsAt, assertionsAt}
 use Rattle.policy.specs.Index.{held, kindTable, verbTable, indexOf, refusal, handedOut, kindsAt, signaturesAt, indexAt}
 use Rattle.policy.specs.Assertions.{itemBy, itemsBy, assertionFormBy, assertionsBy}

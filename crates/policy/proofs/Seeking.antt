@@ -23,9 +23,9 @@ use Rattle.chains.specs.Chains.{walk, Chained, linked, numbersOf}
 use Rattle.chains.proofs.Laws.{walk-end, walk-step, nothing, more}
 use Rattle.chains.proofs.Walks.{Numbered, walked-any}
 use Rattle.policy.specs.Items.{itemsAt}
-use Rattle.policy.specs.declared.slices.Step.{Step}
-use Rattle.policy.specs.declared.slices.Step.the-variants.{Next, Refused}
-use Rattle.policy.specs.Steps.{step}
+use Rattle.slices.specs.declared.Step.{Step}
+use Rattle.slices.specs.declared.Step.the-variants.{Next, Refused}
+use Rattle.slices.specs.Steps.{step}
 use Rattle.policy.specs.Seeking.{constantBucket, verbBucket, newest, Listed, Walkable}
 use Rattle.policy.proofs.ListFacts.{ends-after, ends-snoc, item-up, items-snoc, step-next}
 use Rattle.policy.proofs.ItemFacts.{constant-right, verb-right}

@@ -16,9 +16,9 @@ use Rattle.phrases.specs.declared.Form.{Form}
 use Rattle.phrases.specs.declared.Form.the-variants.{Ends, Broken, NoVerb}
 use Rattle.phrases.specs.Phrases.{factNext, factsNext, factBy, factsBy, thenBy, factFormBy, factsFormBy, factAsks, factsAsks, testsAsks}
 use Rattle.phrases.specs.Marks.{none, marked, within}
-use Rattle.policy.specs.declared.slices.Step.{Step}
-use Rattle.policy.specs.declared.slices.Step.the-variants.{Next, Refused}
-use Rattle.policy.specs.Steps.{thenStep, countRight, endedAt}
+use Rattle.slices.specs.declared.Step.{Step}
+use Rattle.slices.specs.declared.Step.the-variants.{Next, Refused}
+use Rattle.slices.specs.Steps.{thenStep, countRight, endedAt}
 
 -- ---- form, in an item that ends at e
 

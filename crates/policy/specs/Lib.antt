@@ -1,4 +1,3 @@
-pub mod Steps
 pub mod Items
 pub mod Index
 pub mod Assertions

@@ -1,6 +1,5 @@
 // Constants: their form (3), and whether one is alike to an earlier one (4).
-use crate::slices;
-use crate::slices::Step;
+use slices::Step;
 ghost use mathlib.Core.Path.{_≡_};
 ghost use mathlib.Core.Bool.{true};
 ghost use mathlib.Core.List.{[]};
@@ -13,7 +12,7 @@ ghost use Rattle.model.specs.Lists.{any, sameList};
 ghost use Rattle.model.specs.Readings.{itemEnd, constantAt, endsBy};
 ghost use Rattle.model.specs.Forms.{itemThere, numberForm, valueForm, constantForm};
 ghost use Rattle.model.specs.Policies.{contents, itemsFrom, listAt, alikeConstants, constantItem};
-ghost use Rattle.policy.specs.Steps.{step};
+ghost use Rattle.slices.specs.Steps.{step};
 ghost use Rattle.policy.specs.Items.{constantsAt};
 ghost use Rattle.labels.specs.Hash.{buckets};
 ghost use Rattle.chains.specs.Chains.{walk, linked};

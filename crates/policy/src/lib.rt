@@ -12,7 +12,6 @@ ghost use Rattle.policy.specs.Index.{refusal, indexAt, handedOut, labelO
 
 pub mod assertions;
 pub mod constants;
-pub mod slices;
 pub mod tables;
 pub mod verbs;
 

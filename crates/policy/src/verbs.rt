@@ -1,7 +1,6 @@
 // Verbs: their form (3), and whether a label is alike to an earlier one (4).
 use crate::constants;
-use crate::slices;
-use crate::slices::Step;
+use slices::Step;
 ghost use mathlib.Core.Path.{_≡_};
 ghost use mathlib.Core.Bool.{true};
 ghost use mathlib.Core.List.{[]};
@@ -14,7 +13,7 @@ ghost use Rattle.model.specs.Readings.{itemEnd, verbAt, endsBy};
 ghost use Rattle.model.specs.Forms.{isKind, signatureForm, verbForm};
 ghost use Rattle.model.specs.Policies.{contents, itemsFrom, listAt, alikeVerbs, verbItem};
 ghost use Rattle.wire.specs.Budget.{farthest};
-ghost use Rattle.policy.specs.Steps.{step};
+ghost use Rattle.slices.specs.Steps.{step};
 ghost use Rattle.policy.specs.Items.{verbsAt};
 ghost use Rattle.labels.specs.Hash.{buckets};
 ghost use Rattle.chains.specs.Chains.{walk, linked};

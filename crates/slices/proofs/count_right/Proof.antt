@@ -1,9 +1,9 @@
 use borrow.Author.Needs.{needs}
-use Rattle.policy.proofs.slices.count_right.Statement.{statement}
-use Rattle.policy.proofs.slices.count_right.Tie as tie
+use Rattle.slices.proofs.count_right.Statement.{statement}
+use Rattle.slices.proofs.count_right.Tie as tie
 use native.Mathlib.Omega.{arith}
 use Rattle.wire.proofs.Reading.{reading}
-use Rattle.policy.specs.Steps.{countRight}
+use Rattle.slices.specs.Steps.{countRight}
 
 pub count-right-spec : {M : Type 1} → statement M
 unfolding countRight

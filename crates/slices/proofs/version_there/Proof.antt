@@ -1,6 +1,6 @@
 use borrow.Author.Needs.{needs}
-use Rattle.policy.proofs.slices.version_there.Statement.{statement}
-use Rattle.policy.proofs.slices.version_there.Tie as tie
+use Rattle.slices.proofs.version_there.Statement.{statement}
+use Rattle.slices.proofs.version_there.Tie as tie
 use Rattle.wire.proofs.Reading.{reading}
 use native.Mathlib.Omega.{arith}
 use Rattle.model.specs.Policies.{versionThere}

@@ -1,6 +1,6 @@
 use borrow.Author.Needs.{needs}
-use Rattle.policy.proofs.slices.length_right.Statement.{statement}
-use Rattle.policy.proofs.slices.length_right.Tie as tie
+use Rattle.slices.proofs.length_right.Statement.{statement}
+use Rattle.slices.proofs.length_right.Tie as tie
 use native.Mathlib.Omega.{arith}
 use Rattle.wire.proofs.Reading.{reading}
 use mathlib.Core.Bool.{false≢true}

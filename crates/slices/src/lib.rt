@@ -5,7 +5,7 @@ ghost use Prim.Native.Nat.{_+_, _≤_};
 ghost use lib.ListN.{length};
 ghost use Rattle.model.specs.Policies.{versionThere, lengthRight};
 ghost use Rattle.wire.specs.Budget.{farthest, longest};
-ghost use Rattle.policy.specs.Steps.{countRight, endedAt};
+ghost use Rattle.slices.specs.Steps.{countRight, endedAt};
 
 // Where reading goes on, or a refusal's number and place.
 pub enum Step {
