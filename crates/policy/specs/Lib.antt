@@ -1,4 +1,1 @@
-pub mod Items
 pub mod Index
-pub mod Assertions
-pub mod Seeking
