@@ -3,7 +3,7 @@ use mathlib.Core.Path.{refl}
 use mathlib.Core.List.{[]}
 use lib.Dec.{T}
 use Rattle.model.specs.Lists.{member}
-use Rattle.model.specs.Syntax.{Policy, Request, says, flat, con, worldOf}
+use Rattle.model.specs.Syntax.{Policy, Request, read, says, flat, con, worldOf}
 use Rattle.model.specs.Requests.{issuers}
 use Rattle.model.specs.Reached.{reach}
 use Rattle.model.specs.Bytes.{Reading, got, refused}
@@ -70,9 +70,8 @@ unfolding
     label constant verb expr constraint levels fact assertion constantItem verbItem assertionItem asking parts node slice readPolicy readRequest
     decisionOn decisionBy decision
 beltPair = record {
-  shorter = short;
+  shorter = read short asked;
   longer = long;
-  asked = asked;
   inputs = record { readAs = (accepted (readPolicy P), 114, refl, refl); askedAs = (18, refl) };
   longerRead = (accepted (readPolicy longerP), 130, refl, refl);
   outside = record {

@@ -9,17 +9,17 @@ use lib.ListN.{length, take, drop, getD}
 use lib.Seq.{take-at, drop-at, drop-drop}
 use Rattle.model.specs.Limits.{answerBytes}
 use Rattle.model.specs.Lists.{each, sorted}
-use Rattle.model.specs.Syntax.{Assertion, Policy, Request, Node, World, worldOf}
+use Rattle.model.specs.Syntax.{Assertion, Policy, Request, Node, World, Read, read, worldIn}
 use Rattle.model.specs.Rules.{Rule}
 use Rattle.model.specs.Records.{Entry, keyOf, answerOf, answersBytes}
 use Rattle.model.specs.Meant.{Outcome, tooManyFacts, tooManyAnswers, decided}
 use Rattle.model.specs.Rounds.{lastRound}
 use Rattle.model.specs.Steps.{eqSaid, step}
-use Rattle.model.specs.Deciding.{outcome, decide, countingIn}
+use Rattle.model.specs.Deciding.{outcome, decide, countedIn}
 use Rattle.model.specs.Bytes.{Reading, got, refused}
 use Rattle.model.specs.Policies.{Accepted, policyOf, readPolicy}
 use Rattle.model.specs.Nodes.{readRequest}
-use Rattle.model.specs.Decision.{Report, capacity, room, reported, decisionOn, decisionBy, decision}
+use Rattle.model.specs.Decision.{Lent, Report, capacity, room, reported, decisionOn, decisionBy, decision}
 use Rattle.model.specs.Theorems.{ReadAs, AskedAs, Inputs, answerIn}
 use Rattle.model.proofs.RoundFacts as S
 use Rattle.model.proofs.StepFacts.{eqSaid-of, eqSaid-refl, step-of, step-in}
@@ -27,24 +27,25 @@ use Rattle.model.proofs.OutcomeFacts.{sorted-length, sorted-round, Resu
 
 -- ---- accepted inputs
 
-decided-by : (r : Reading Accepted) (P : Policy) (request facts answers : List ℕ) → (A : Accepted) × (e : ℕ) × (r ≡ got A e) × (policyOf A ≡ P)
-    → decisionBy r request facts answers ≡ decisionOn P (readRequest (P .constants) (P .verbs) request) facts answers
+pub decided-by : (r : Reading Accepted) (P : Policy) (l : Lent) → (A : Accepted) × (e : ℕ) × (r ≡ got A e) × (policyOf A ≡ P)
+    → decisionBy r l ≡ decisionOn P (readRequest (P .constants) (P .verbs) (l .slices .request)) l
 unfolding decisionBy
-decided-by r P request facts answers h =
-    ap (λ (r : Reading Accepted). decisionBy r request facts answers) (h .2)
-    ∙ ap (λ (P : Policy). decisionOn P (readRequest (P .constants) (P .verbs) request) facts answers) (h .3)
+decided-by r P l h =
+    ap (λ (r : Reading Accepted). decisionBy r l) (h .2)
+    ∙ ap (λ (P : Policy). decisionOn P (readRequest (P .constants) (P .verbs) (l .slices .request)) l) (h .3)
 
-decided-on : (P : Policy) (r : Reading Request) (q : Request) (e : ℕ) (facts answers : List ℕ) → r ≡ got q e
-    → decisionOn P r facts answers ≡ reported (decide P q (capacity facts) (room answers)) facts answers
+decided-on : (P : Policy) (r : Reading Request) (q : Request) (e : ℕ) (l : Lent) → r ≡ got q e
+    → decisionOn P r l ≡ reported (decide (read P q) (capacity (l .factBuffer)) (room (l .answerBuffer))) l
 unfolding decisionOn
-decided-on P r q e facts answers h = ap (λ (r : Reading Request). decisionOn P r facts answers) h
+decided-on P r q e l h = ap (λ (r : Reading Request). decisionOn P r l) h
 
-pub reports : (policy request facts answers : List ℕ) (P : Policy) (q : Request) → Inputs policy request P q
-    → decision policy request facts answers ≡ reported (decide P q (capacity facts) (room answers)) facts answers
+pub reports : (l : Lent) (R : Read) → Inputs (l .slices) R
+    → decision l ≡ reported (decide R (capacity (l .factBuffer)) (room (l .answerBuffer))) l
 unfolding decision
-reports policy request facts answers P q h =
-    decided-by (readPolicy policy) P request facts answers (h .readAs)
-    ∙ decided-on P (readRequest (P .constants) (P .verbs) request) q (h .askedAs .0) facts answers (h .askedAs .1)
+reports l R h =
+    let P = R .policy in
+    decided-by (readPolicy (l .slices .policy)) P l (h .readAs)
+    ∙ decided-on P (readRequest (P .constants) (P .verbs) (l .slices .request)) (R .request) (h .askedAs .0) l (h .askedAs .1)
 
 -- ---- rounds and facts, whatever the bytes
 
@@ -53,30 +54,29 @@ rounds-found W 𝒜 n c r =
     let h = S.rounds-le eqSaid (step W 𝒜) (Rule W 𝒜) eqSaid-of eqSaid-refl (step-of W 𝒜) (step-in W 𝒜) (suc c) 0 in
     rw (sorted-round (found W 𝒜 n c r), sorted-length keyOf (found W 𝒜 n c r)) (omega arith)
 
-rounds-result : (W : World) (𝒜 : List Assertion) (n : Node) (c r : ℕ) (facts answers : List ℕ) {o : Outcome} → Result W 𝒜 n c r o
-    → reported o facts answers .rounds ≤ reported o facts answers .facts
-rounds-result W 𝒜 n c r facts answers (over h) = zero-le
-rounds-result W 𝒜 n c r facts answers (many h k) = rounds-found W 𝒜 n c r
-rounds-result W 𝒜 n c r facts answers (fine h k) = rounds-found W 𝒜 n c r
+rounds-result : (W : World) (𝒜 : List Assertion) (n : Node) (c r : ℕ) (l : Lent) {o : Outcome} → Result W 𝒜 n c r o
+    → reported o l .rounds ≤ reported o l .facts
+rounds-result W 𝒜 n c r l (over h) = zero-le
+rounds-result W 𝒜 n c r l (many h k) = rounds-found W 𝒜 n c r
+rounds-result W 𝒜 n c r l (fine h k) = rounds-found W 𝒜 n c r
 
-rounds-on : (P : Policy) (r : Reading Request) (facts answers : List ℕ) → decisionOn P r facts answers .rounds ≤ decisionOn P r facts answers .facts
+rounds-on : (P : Policy) (r : Reading Request) (l : Lent) → decisionOn P r l .rounds ≤ decisionOn P r l .facts
 unfolding decisionOn
-rounds-on P (got q e) facts answers =
-    let W = worldOf P q in
-    let 𝒜 = countingIn P q in
-    let c = capacity facts in
-    let r = room answers in
-    rounds-result W 𝒜 (q .node) c r facts answers (result W 𝒜 (q .node) c r)
-rounds-on P (refused n p) facts answers = zero-le
+rounds-on P (got q e) l =
+    let R = read P q in
+    let c = capacity (l .factBuffer) in
+    let r = room (l .answerBuffer) in
+    rounds-result (worldIn R) (countedIn R) (q .node) c r l (result (worldIn R) (countedIn R) (q .node) c r)
+rounds-on P (refused n p) l = zero-le
 
-rounds-by : (r : Reading Accepted) (request facts answers : List ℕ) → decisionBy r request facts answers .rounds ≤ decisionBy r request facts answers .facts
+rounds-by : (r : Reading Accepted) (l : Lent) → decisionBy r l .rounds ≤ decisionBy r l .facts
 unfolding decisionBy
-rounds-by (got A e) request facts answers = rounds-on (policyOf A) (readRequest (policyOf A .constants) (policyOf A .verbs) request) facts answers
-rounds-by (refused n p) request facts answers = zero-le
+rounds-by (got A e) l = rounds-on (policyOf A) (readRequest (policyOf A .constants) (policyOf A .verbs) (l .slices .request)) l
+rounds-by (refused n p) l = zero-le
 
-pub rounds-facts : (policy request facts answers : List ℕ) → decision policy request facts answers .rounds ≤ decision policy request facts answers .facts
+pub rounds-facts : (l : Lent) → decision l .rounds ≤ decision l .facts
 unfolding decision
-rounds-facts policy request facts answers = rounds-by (readPolicy policy) request facts answers
+rounds-facts l = rounds-by (readPolicy (l .slices .policy)) l
 
 -- ---- where the answers stand
 

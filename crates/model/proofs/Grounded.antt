@@ -9,7 +9,7 @@ use lib.Dec.{T, eqb, leb, leb→le, eqb→eq}
 use Rattle.model.specs.Limits.{principal, quantity, unlimited, unbound, canActAs}
 use Rattle.model.specs.Lists.{all, each, member}
 use Rattle.model.specs.Syntax.{Expr, con, var, today, Fact, flat, canSay, mapFact, about, Assertion, Constant, Verb}
-use Rattle.model.specs.Syntax.{Policy, Request, World, worldOf, Said, said, varsOf}
+use Rattle.model.specs.Syntax.{Policy, Request, World, worldOf, read, Said, said, varsOf}
 use Rattle.model.specs.Kinds.{kindAt, paramKinds, Demands, demandsOf, places, pair, inPlace, comparable, fitting}
 use Rattle.model.specs.Values.{bound}
 use Rattle.model.specs.Binding.{Fits, Binds, inPlaces}
@@ -108,5 +108,5 @@ module _ (policy : List ℕ) (P : Policy) (q : Request) (r : ReadAs policy P) wh
       let k = h (said a d (about c f)) (List·Memᴰ·tail (List·Memᴰ·head refl)) in
       (g .0, g .1, about-ground cs vs b c f (g .2 .0) (k .2))
 
-  pub grounded : (x : Said) → DerivableIn P q x → GroundSaid W x
+  pub grounded : (x : Said) → DerivableIn (read P q) x → GroundSaid W x
   grounded x (by r h) = rule-ground r (λ y e. grounded y (h y e))
