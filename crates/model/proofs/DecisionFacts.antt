@@ -19,33 +19,50 @@ use Rattle.model.specs.Deciding.{outcome, decide, countedIn}
 use Rattle.model.specs.Bytes.{Reading, got, refused}
 use Rattle.model.specs.Policies.{Accepted, policyOf, readPolicy}
 use Rattle.model.specs.Nodes.{readRequest}
-use Rattle.model.specs.Decision.{Lent, Report, capacity, room, reported, decisionOn, decisionBy, decision}
-use Rattle.model.specs.Theorems.{ReadAs, AskedAs, Inputs, answerIn}
+use Rattle.model.specs.Decision.{Slices, Lent, Taken, accepted, refusedOn, takenOn, takenBy, readSlices}
+use Rattle.model.specs.Decision.{Report, capacity, room, reported, decisionOf, decision}
+use Rattle.model.specs.Theorems.{ReadAs, AskedAs, Inputs, InputsBySlice, answerIn}
 use Rattle.model.proofs.RoundFacts as S
 use Rattle.model.proofs.StepFacts.{eqSaid-of, eqSaid-refl, step-of, step-in}
 use Rattle.model.proofs.OutcomeFacts.{sorted-length, sorted-round, Result, over, many, fine, result, found}
 
 -- ---- accepted inputs
 
-pub decided-by : (r : Reading Accepted) (P : Policy) (l : Lent) → (A : Accepted) × (e : ℕ) × (r ≡ got A e) × (policyOf A ≡ P)
-    → decisionBy r l ≡ decisionOn P (readRequest (P .constants) (P .verbs) (l .slices .request)) l
-unfolding decisionBy
-decided-by r P l h =
-    ap (λ (r : Reading Accepted). decisionBy r l) (h .2)
-    ∙ ap (λ (P : Policy). decisionOn P (readRequest (P .constants) (P .verbs) (l .slices .request)) l) (h .3)
+accepted-same : (R S : Read) → accepted R ≡ accepted S → R ≡ S
+accepted-same R S e = cc
 
-decided-on : (P : Policy) (r : Reading Request) (q : Request) (e : ℕ) (l : Lent) → r ≡ got q e
-    → decisionOn P r l ≡ reported (decide (read P q) (capacity (l .factBuffer)) (room (l .answerBuffer))) l
-unfolding decisionOn
-decided-on P r q e l h = ap (λ (r : Reading Request). decisionOn P r l) h
+not-accepted : (n side p : ℕ) (R : Read) → refusedOn n side p ≡ accepted R → ⊥
+not-accepted n side p R e = let z : _≡_ {A = ℕ} 0 1 = cc in omega arith
+
+on-accepted : (P : Policy) (r : Reading Request) (R : Read) → takenOn P r ≡ accepted R → (P ≡ R .policy) × ((e : ℕ) × (r ≡ got (R .request) e))
+unfolding takenOn
+on-accepted P (got q e) R h =
+    let k = accepted-same (read P q) R h in
+    (ap (λ (S : Read). S .policy) k, (e, ap (λ (S : Read). got (S .request) e) k))
+on-accepted P (refused n p) R h = absurd (not-accepted n 2 p R h)
+
+by-accepted : (r : Reading Accepted) (s : Slices) (R : Read) → takenBy r s ≡ accepted R
+    → ((A : Accepted) × (e : ℕ) × (r ≡ got A e) × (policyOf A ≡ R .policy)) × AskedAs (R .policy) (s .request) (R .request)
+unfolding takenBy
+by-accepted (got A e) s R h =
+    let k = on-accepted (policyOf A) (readRequest (policyOf A .constants) (policyOf A .verbs) (s .request)) R h in
+    ((A, e, refl, k .0), subst (λ (P : Policy). AskedAs P (s .request) (R .request)) (k .0) (k .1))
+by-accepted (refused n p) s R h = absurd (not-accepted n 1 p R h)
+
+pub slice-by-slice : (s : Slices) (R : Read) → Inputs s R → InputsBySlice s R
+unfolding readSlices
+slice-by-slice s R h = let k = by-accepted (readPolicy (s .policy)) s R h in record { readAs = k .0; askedAs = k .1 }
+
+pub of-slices : (s : Slices) (R : Read) → InputsBySlice s R → Inputs s R
+unfolding readSlices takenBy takenOn
+of-slices s R h =
+    ap (λ (r : Reading Accepted). takenBy r s) (h .readAs .2)
+    ∙ (ap (λ (P : Policy). takenOn P (readRequest (P .constants) (P .verbs) (s .request))) (h .readAs .3) ∙ ap (takenOn (R .policy)) (h .askedAs .1))
 
 pub reports : (l : Lent) (R : Read) → Inputs (l .slices) R
     → decision l ≡ reported (decide R (capacity (l .factBuffer)) (room (l .answerBuffer))) l
-unfolding decision
-reports l R h =
-    let P = R .policy in
-    decided-by (readPolicy (l .slices .policy)) P l (h .readAs)
-    ∙ decided-on P (readRequest (P .constants) (P .verbs) (l .slices .request)) (R .request) (h .askedAs .0) l (h .askedAs .1)
+unfolding decision decisionOf
+reports l R h = ap (λ (t : Taken). decisionOf t l) h
 
 -- ---- rounds and facts, whatever the bytes
 
@@ -60,23 +77,18 @@ rounds-result W 𝒜 n c r l (over h) = zero-le
 rounds-result W 𝒜 n c r l (many h k) = rounds-found W 𝒜 n c r
 rounds-result W 𝒜 n c r l (fine h k) = rounds-found W 𝒜 n c r
 
-rounds-on : (P : Policy) (r : Reading Request) (l : Lent) → decisionOn P r l .rounds ≤ decisionOn P r l .facts
-unfolding decisionOn
-rounds-on P (got q e) l =
-    let R = read P q in
+rounds-of : (t : Taken) (l : Lent) → decisionOf t l .rounds ≤ decisionOf t l .facts
+unfolding decisionOf
+rounds-of (accepted R) l =
+    let n = R .request .node in
     let c = capacity (l .factBuffer) in
     let r = room (l .answerBuffer) in
-    rounds-result (worldIn R) (countedIn R) (q .node) c r l (result (worldIn R) (countedIn R) (q .node) c r)
-rounds-on P (refused n p) l = zero-le
-
-rounds-by : (r : Reading Accepted) (l : Lent) → decisionBy r l .rounds ≤ decisionBy r l .facts
-unfolding decisionBy
-rounds-by (got A e) l = rounds-on (policyOf A) (readRequest (policyOf A .constants) (policyOf A .verbs) (l .slices .request)) l
-rounds-by (refused n p) l = zero-le
+    rounds-result (worldIn R) (countedIn R) n c r l (result (worldIn R) (countedIn R) n c r)
+rounds-of (refusedOn n side p) l = zero-le
 
 pub rounds-facts : (l : Lent) → decision l .rounds ≤ decision l .facts
 unfolding decision
-rounds-facts l = rounds-by (readPolicy (l .slices .policy)) l
+rounds-facts l = rounds-of (readSlices (l .slices)) l
 
 -- ---- where the answers stand
 

@@ -35,7 +35,7 @@ use Rattle.model.proofs.Inside.{inside}
 use Rattle.model.proofs.Growth.{holds-more, rule-grows}
 use Rattle.model.proofs.ReadFacts.{accepted-count, subject-placed, policy-fine}
 use Rattle.model.proofs.KindFacts.{fitting↔, one-kind}
-use Rattle.model.proofs.DecisionFacts.{reports, rounds-facts, answer-at, getD-in, in-getD}
+use Rattle.model.proofs.DecisionFacts.{slice-by-slice, of-slices, reports, rounds-facts, answer-at, getD-in, in-getD}
 use Rattle.model.proofs.ProperRequests.{safely-asked}
 use Rattle.model.proofs.BoundVariables.{instances}
 use Rattle.model.proofs.Grounded.{grounded}
@@ -60,11 +60,14 @@ roundsAtMostFacts = rounds-facts
 
 -- ---- the outcome
 
+pub sliceBySlice : Q.SliceBySlice
+sliceBySlice s R = (slice-by-slice s R, of-slices s R)
+
 module _ (s : Slices) (R : Read) (h : Inputs s R) where
   counting-arity : (a : Assertion) → List·Memᴰ a (countedIn R) → Arity (R .policy .verbs) (a .head)
   counting-arity a m =
       let 𝒜 = R .policy .assertions in
-      policy-fine (s .policy) (R .policy) (h .readAs) a (keep-of (issuedIn (reach (worldIn R) 𝒜 (issuers (R .request .node) (worldIn R)))) 𝒜 m .0) .arity
+      policy-fine (s .policy) (R .policy) (slice-by-slice s R h .readAs) a (keep-of (issuedIn (reach (worldIn R) 𝒜 (issuers (R .request .node) (worldIn R)))) 𝒜 m .0) .arity
 
   meant-by : (c r : ℕ) → MeantBy R c r (decide R c r)
   meant-by c r = meant (worldIn R) (countedIn R) (R .request .node) c r counting-arity
@@ -173,10 +176,9 @@ module _ {X : Assertion → Type 0} (R : Read) (L : Policy) (x : Longer X (R .po
   R′ = read L (R .request)
 
   longer-inputs : (l : Lent) (longer : List ℕ) → Inputs (l .slices) R → ReadAs longer L → Inputs (withPolicy longer l .slices) R′
-  longer-inputs l longer h a = record {
-    readAs = a;
-    askedAs = (h .askedAs .0, rw (x .constants, x .verbs) (h .askedAs .1));
-  }
+  longer-inputs l longer h a =
+      let k = slice-by-slice (l .slices) R h .askedAs in
+      of-slices (withPolicy longer l .slices) R′ (record { readAs = a; askedAs = (k .0, rw (x .constants, x .verbs) (k .1)) })
 
   longer-world : worldIn R′ ≡ worldIn R
   longer-world = λ i. record { constants = x .constants i; verbs = x .verbs i; today = R .request .today }
@@ -213,7 +215,7 @@ pub insiders : Q.Insiders
 insiders s R h n x r =
     let P = R .policy in
     inside (worldIn R) (issuers (R .request .node) (worldIn R)) (P .assertions)
-    (λ a m. subject-placed (P .constants) (P .verbs) a (policy-fine (s .policy) P (h .readAs) a m .fit)) n x r
+    (λ a m. subject-placed (P .constants) (P .verbs) a (policy-fine (s .policy) P (slice-by-slice s R h .readAs) a m .fit)) n x r
 
 -- the answers of a decision are those that its buffer lists
 binding-length : (W : World) (n : Node) (θ : List ℕ) → List·Memᴰ θ (bindingsIn W n) → length θ ≡ answerBytes
@@ -268,10 +270,13 @@ pub instanceBindings : Q.InstanceBindings
 instanceBindings policy P q r a m θ = instances policy P r (q .today) a m θ
 
 pub answerBindings : Q.AnswerBindings
-answerBindings s R i θ = answering (s .policy) (s .request) (R .policy) (R .request) (i .readAs) (i .askedAs) θ
+answerBindings s R h θ =
+    let i = slice-by-slice s R h in
+    answering (s .policy) (s .request) (R .policy) (R .request) (i .readAs) (i .askedAs) θ
 
 pub wholeNodeFits : Q.WholeNodeFits
-wholeNodeFits s R i =
+wholeNodeFits s R h =
+    let i = slice-by-slice s R h in
     let P = R .policy in
     kindsFit (P .constants) (demandsIn (R .request .node) (P .verbs)) .0 (whole (s .policy) (s .request) P (R .request) (i .readAs) (i .askedAs) .fit)
 
@@ -287,7 +292,8 @@ belowUnbound policy P r c n = go (decLt c unbound)
         (let l : length (P .constants) ≤ c = omega (arith, few) in l))))
 
 pub freeAnswers : Q.FreeAnswers
-freeAnswers s R i θ a v t =
+freeAnswers s R h θ a v t =
+    let i = slice-by-slice s R h in
     let P = R .policy in
     let q = R .request in
     let k = answered (s .policy) (s .request) P q (i .readAs) (i .askedAs) θ (a .0) v t in
@@ -297,7 +303,7 @@ freeAnswers s R i θ a v t =
 -- ---- ground
 
 pub ground : Q.Ground
-ground s R i x d = grounded (s .policy) (R .policy) (R .request) (i .readAs) x d
+ground s R h x d = grounded (s .policy) (R .policy) (R .request) (slice-by-slice s R h .readAs) x d
 
 -- ---- safety
 

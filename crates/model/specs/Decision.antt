@@ -3,7 +3,7 @@ use Prim.Native.Nat.{ℕ, _-_, _/_, min}
 use mathlib.Core.List.{List, [], _∷_, _++_}
 use lib.ListN.{length, replicate}
 use Rattle.model.specs.Limits.{recordBytes, maxRecords, answerBytes}
-use Rattle.model.specs.Syntax.{Policy, Request, read}
+use Rattle.model.specs.Syntax.{Policy, Request, Read}
 use Rattle.model.specs.Records.{Entry, recordsOf, lastRound, answersBytes}
 use Rattle.model.specs.Meant.{Outcome, tooManyFacts, tooManyAnswers, decided}
 use Rattle.model.specs.Deciding.{decide}
@@ -26,6 +26,23 @@ slices policy request = record { policy = policy; request = request }
 
 abbrev pub lent : List ℕ → List ℕ → List ℕ → List ℕ → Lent
 lent policy request facts answers = record { slices = slices policy request; factBuffer = facts; answerBuffer = answers }
+
+-- what the slices say, or "a refusal's number, side and place"
+pub data Taken : Type 0 where
+  accepted : Read → Taken
+  refusedOn : ℕ → ℕ → ℕ → Taken
+
+unfoldable pub takenOn : Policy → Reading Request → Taken
+takenOn P (got q e) = accepted (record { policy = P; request = q })
+takenOn P (refused n p) = refusedOn n 2 p
+
+-- "side 1 policy or 2 request"; "Policy before request"
+unfoldable pub takenBy : Reading Accepted → Slices → Taken
+takenBy (got A e) s = let P = policyOf A in takenOn P (readRequest (P .constants) (P .verbs) (s .request))
+takenBy (refused n p) s = refusedOn n 1 p
+
+unfoldable pub readSlices : Slices → Taken
+readSlices s = takenBy (readPolicy (s .policy)) s
 
 -- "the decision word or a refusal's number, side and place"
 pub data Verdict : Type 0 where
@@ -63,7 +80,7 @@ abbrev pub word : List (List ℕ) → Verdict
 word [] = deny
 word (θ ∷ θs) = allow
 
--- "Refusals from the input: Both buffers untouched, counts 0, side 1 policy or 2 request"
+-- "Refusals from the input: Both buffers untouched, counts 0"
 abbrev pub untouched : ℕ → ℕ → ℕ → Lent → Report
 untouched number side place l = report (refusal number side place) 0 0 0 (l .factBuffer) (l .answerBuffer)
 
@@ -74,14 +91,9 @@ reported (tooManyAnswers F) l = report (refusal 9 0 0) (length F) (lastRound F) 
 reported (decided F A) l =
     report (word A) (length F) (lastRound F) (length A) (atFront (l .factBuffer) (recordsOf F)) (atFront (l .answerBuffer) (answersBytes A))
 
-unfoldable pub decisionOn : Policy → Reading Request → Lent → Report
-decisionOn P (got q e) l = reported (decide (read P q) (capacity (l .factBuffer)) (room (l .answerBuffer))) l
-decisionOn P (refused n p) l = untouched n 2 p l
-
--- "Policy before request"
-unfoldable pub decisionBy : Reading Accepted → Lent → Report
-decisionBy (got A e) l = let P = policyOf A in decisionOn P (readRequest (P .constants) (P .verbs) (l .slices .request)) l
-decisionBy (refused n p) l = untouched n 1 p l
+unfoldable pub decisionOf : Taken → Lent → Report
+decisionOf (accepted R) l = reported (decide R (capacity (l .factBuffer)) (room (l .answerBuffer))) l
+decisionOf (refusedOn n side p) l = untouched n side p l
 
 unfoldable pub decision : Lent → Report
-decision l = decisionBy (readPolicy (l .slices .policy)) l
+decision l = decisionOf (readSlices (l .slices)) l

@@ -26,20 +26,16 @@ use Rattle.model.specs.Bytes.{got}
 use Rattle.model.specs.Layout.{Accepted, policyOf, node, readPolicy, readRequest}
 use Rattle.model.specs.Safety.{safeRequest}
 use Rattle.model.specs.Safe.{SafeRequest}
-use Rattle.model.specs.Decision.{Slices, Lent, lent, Verdict, allow, deny, refusal, Report, capacity, room, reported, decision}
+use Rattle.model.specs.Decision.{Slices, Lent, lent, accepted, readSlices, Verdict, allow, deny, refusal, Report, capacity, room, reported, decision}
 
 -- ---- 1. accepted inputs, and what they derive and answer. "Accepted: no refusal from the input stands against it."
 
 abbrev pub ReadAs : List ℕ → Policy → Type 0
 ReadAs policy P = (A : Accepted) × (e : ℕ) × (readPolicy policy ≡ got A e) × (policyOf A ≡ P)
 
-abbrev pub AskedAs : Policy → List ℕ → Request → Type 0
-AskedAs P request q = (e : ℕ) × (readRequest (P .constants) (P .verbs) request ≡ got q e)
-
 -- the slices are accepted, and R is what was read of them
-pub record Inputs (s : Slices) (R : Read) : Type 0 where
-  pub readAs : ReadAs (s .policy) (R .policy)
-  pub askedAs : AskedAs (R .policy) (s .request) (R .request)
+abbrev pub Inputs : Slices → Read → Type 0
+Inputs s R = readSlices s ≡ accepted R
 
 -- what the request's reach derives, the entries of its table, and its answers
 abbrev pub DerivableIn : Read → Said → Type 0
@@ -180,6 +176,17 @@ SafelyAsked = (policy request : List ℕ) (P : Policy) → ReadAs policy P
     → (n : Node) (e : ℕ) → node request (P .constants) (P .verbs) 8 noDemands 0 (length request) 9 ≡ got n e → T (safeRequest n) ↔ SafeRequest n
 
 -- ==== For proofs from here on: what the demands say again, of calls of the engine (crate `demands`).
+
+abbrev pub AskedAs : Policy → List ℕ → Request → Type 0
+AskedAs P request q = (e : ℕ) × (readRequest (P .constants) (P .verbs) request ≡ got q e)
+
+-- slice by slice
+pub record InputsBySlice (s : Slices) (R : Read) : Type 0 where
+  pub readAs : ReadAs (s .policy) (R .policy)
+  pub askedAs : AskedAs (R .policy) (s .request) (R .request)
+
+abbrev pub SliceBySlice : Type 0
+SliceBySlice = (s : Slices) (R : Read) → Inputs s R ↔ InputsBySlice s R
 
 -- ---- 6. rules and rounds
 
