@@ -87,7 +87,8 @@ module _ (R : Read) where
   module _ (s : Slices) (h : Inputs s R) where
     pub record-length : (e : Entry) → EntryIn R e → length (recordOf e) ≡ recordBytes
     record-length e f =
-        ap (λ (n : ℕ). suc (suc n)) (key-length (e .1) (shaped W 𝒜 (λ a m. policy-formed (s .policy) (R .policy) (slice-by-slice s R h .readAs) a (counts↔ R a .0 m .0)) (e .1)
+        let read = slice-by-slice s R h .readAs in
+        ap (λ (n : ℕ). suc (suc n)) (key-length (e .1) (shaped W 𝒜 (λ a m. policy-formed (s .policy) (R .policy) read a (counts↔ R a .0 m .0)) (e .1)
         (entry-derives (e .0) (e .1) f)))
 
   module _ (l : Lent) (h : Inputs (l .slices) R) where

@@ -1,19 +1,19 @@
 -- Which side a verdict is of, and what it was read from.
 use mathlib.Core.Path.{_≡_, refl, sym, ap, subst, _∙_}
 use mathlib.Core.Logic.{_↔_}
-use mathlib.Core.List.{List, [], _∷_, List·Memᴰ·head, List·Memᴰ·tail}
+use mathlib.Core.List.{List, [], _∷_, List·Memᴰ, List·Memᴰ·head, List·Memᴰ·tail}
 use Prim.Native.Nat.{ℕ, suc}
 use native.Mathlib.Omega.{arith}
-use Rattle.model.specs.Syntax.{Policy, Request, Read, read}
+use Rattle.model.specs.Syntax.{Policy, Request, Read}
 use Rattle.model.specs.Meant.{Outcome, tooManyFacts, tooManyAnswers, decided}
-use Rattle.model.specs.Deciding.{decide}
+use Rattle.model.specs.Deciding.{decide, read}
 use Rattle.model.specs.Bytes.{Reading, got, refused}
 use Rattle.model.specs.Policies.{Accepted, policyOf, readPolicy}
-use Rattle.model.specs.Nodes.{readRequest}
-use Rattle.model.specs.Decision.{Slices, Lent, Taken, accepted, refusedOn, takenOn, takenBy, readSlices}
+use Rattle.model.specs.Decision.{Slices, Lent, Taken, accepted, refusedOn, requestUnder, sided, readSlices}
 use Rattle.model.specs.Decision.{Verdict, refusal, Report, capacity, room, word, untouched, reported, decisionOf, decision}
 use Rattle.model.specs.Theorems.{ReadAs, Inputs, IsDecision}
 use Rattle.model.proofs.ListFacts.{member-of}
+use Rattle.model.proofs.DecisionFacts.{afterPolicy, on-policy}
 use Rattle.demands.specs.Demands.{Answered}
 use Rattle.demands.proofs.Numbers.{RefusesBy, ofPolicy, ofRequest, policy-numbers, request-numbers}
 
@@ -58,54 +58,48 @@ unfolding decisionOf
 of-accepted (accepted R) l d = (R, refl)
 of-accepted (refusedOn n s p) l d = absurd d
 
--- ---- by the two readings
+-- ---- slice by slice
 
 refused-same : {A : Type 0} (m n p k : ℕ) → m ≡ n → p ≡ k → _≡_ {A = Reading A} (refused m p) (refused n k)
 refused-same m n p k e f = λ i. refused (e i) (f i)
 
-taken-side : (m s p n t k : ℕ) → refusedOn m s p ≡ refusedOn n t k → (m ≡ n) × (s ≡ t) × (p ≡ k)
-taken-side m s p n t k e = (cc, cc, cc)
+taken-same : (m s p n t k : ℕ) → refusedOn m s p ≡ refusedOn n t k → (m ≡ n) × (s ≡ t) × (p ≡ k)
+taken-same m s p n t k e = (cc, cc, cc)
 
 not-refused : (R : Read) (n s p : ℕ) → accepted R ≡ refusedOn n s p → ⊥
 not-refused R n s p e = let z : _≡_ {A = ℕ} 0 1 = cc in omega arith
 
-module _ (P : Policy) where
-  on-side : (r : Reading Request) (n p : ℕ) → takenOn P r ≡ refusedOn n 2 p → r ≡ refused n p
-  unfolding takenOn
-  on-side (got q x) n p e = absurd (not-refused _ n 2 p e)
-  on-side (refused m k) n p e = let w = taken-side m 2 k n 2 p e in refused-same m n k p (w .0) (w .2)
+module _ {A : Type 0} (side : ℕ) (next : A → Taken) where
+  -- a refusal of this side is this slice's, where no later one has it
+  sided-refused : (r : Reading A) (n p : ℕ) → ((a : A) → next a ≡ refusedOn n side p → ⊥) → sided side r next ≡ refusedOn n side p → r ≡ refused n p
+  unfolding sided
+  sided-refused (got a x) n p f e = absurd (f a e)
+  sided-refused (refused m k) n p f e = let w = taken-same m side k n side p e in refused-same m n k p (w .0) (w .2)
 
-  on-other : (r : Reading Request) (n p : ℕ) → takenOn P r ≡ refusedOn n 1 p → ⊥
-  unfolding takenOn
-  on-other (got q x) n p e = not-refused _ n 1 p e
-  on-other (refused m k) n p e = let w = taken-side m 2 k n 1 p e .1 in omega arith
+  sided-other : (r : Reading A) (n t p : ℕ) → (side ≡ t → ⊥) → ((a : A) → next a ≡ refusedOn n t p → ⊥) → sided side r next ≡ refusedOn n t p → ⊥
+  unfolding sided
+  sided-other (got a x) n t p d f e = f a e
+  sided-other (refused m k) n t p d f e = d (taken-same m side k n t p e .1)
 
-  on-answered : (r : Reading Request) (l : Lent) → RefusesBy ofRequest r → Answered (decisionOf (takenOn P r) l .verdict)
-  unfolding takenOn decisionOf
-  on-answered (got q x) l w = go (decide (read P q) (capacity (l .factBuffer)) (room (l .answerBuffer)))
-    where
-      said : (A : List (List ℕ)) → Answered (word A)
-      said [] = tt
-      said (θ ∷ A) = tt
+  sided-answered : (r : Reading A) (l : Lent) (numbers : List ℕ) → RefusesBy numbers r
+      → ((n p : ℕ) → List·Memᴰ n numbers → Answered (refusal n side p)) → ((a : A) → Answered (decisionOf (next a) l .verdict))
+      → Answered (decisionOf (sided side r next) l .verdict)
+  unfolding sided decisionOf
+  sided-answered (got a x) l numbers w f g = g a
+  sided-answered (refused n p) l numbers w f g = f n p (member-of n numbers w)
 
-      go : (o : Outcome) → Answered (reported o l .verdict)
-      go tooManyFacts = (List·Memᴰ·head refl, refl)
-      go (tooManyAnswers F) = (List·Memᴰ·tail (List·Memᴰ·head refl), refl)
-      go (decided F A) = said A
-  on-answered (refused n p) l w = member-of n ofRequest w
+accepted-answered : (R : Read) (l : Lent) → Answered (decisionOf (accepted R) l .verdict)
+unfolding decisionOf
+accepted-answered R l = go (decide R (capacity (l .factBuffer)) (room (l .answerBuffer)))
+  where
+    said : (A : List (List ℕ)) → Answered (word A)
+    said [] = tt
+    said (θ ∷ A) = tt
 
-by-side : (r : Reading Accepted) (s : Slices) (n p : ℕ) → takenBy r s ≡ refusedOn n 1 p → r ≡ refused n p
-unfolding takenBy
-by-side (got A x) s n p e = absurd (on-other (policyOf A) (readRequest (policyOf A .constants) (policyOf A .verbs) (s .request)) n p e)
-by-side (refused m k) s n p e = let w = taken-side m 1 k n 1 p e in refused-same m n k p (w .0) (w .2)
-
-by-answered : (r : Reading Accepted) (l : Lent) → RefusesBy ofPolicy r → Answered (decisionOf (takenBy r (l .slices)) l .verdict)
-unfolding takenBy decisionOf
-by-answered (got A x) l w =
-    let P = policyOf A in
-    let request = l .slices .request in
-    on-answered P (readRequest (P .constants) (P .verbs) request) l (request-numbers (P .constants) (P .verbs) request)
-by-answered (refused n p) l w = member-of n ofPolicy w
+    go : (o : Outcome) → Answered (reported o l .verdict)
+    go tooManyFacts = (List·Memᴰ·head refl, refl)
+    go (tooManyAnswers F) = (List·Memᴰ·tail (List·Memᴰ·head refl), refl)
+    go (decided F A) = said A
 
 -- ---- the decision
 
@@ -118,34 +112,34 @@ module _ (l : Lent) where
 
   pub made-answered : Answered (made .verdict)
   unfolding decision readSlices
-  made-answered = by-answered (readPolicy (s .policy)) l (policy-numbers (s .policy))
+  made-answered =
+      sided-answered 1 (λ (A : Accepted). afterPolicy s (policyOf A)) (readPolicy (s .policy)) l ofPolicy (policy-numbers (s .policy)) (λ n p m. m)
+      (λ A. let P = policyOf A in sided-answered 2 (λ (q : Request). accepted (read P q)) (requestUnder P s) l ofRequest
+      (request-numbers (P .constants) (P .verbs) (s .request)) (λ n p m. m) (λ q. accepted-answered (read P q) l))
 
   pub policy-kept : (n p : ℕ) → readPolicy (s .policy) ≡ refused n p → made ≡ untouched n 1 p l
-  unfolding decision readSlices takenBy
-  policy-kept n p e = of-kept (readSlices s) l n 1 p (ap (λ (r : Reading Accepted). takenBy r s) e)
+  unfolding decision readSlices sided
+  policy-kept n p e = of-kept (readSlices s) l n 1 p (ap (λ (r : Reading Accepted). sided 1 r (λ (A : Accepted). afterPolicy s (policyOf A))) e)
 
   pub policy-side : (n p : ℕ) → (made .verdict ≡ refusal n 1 p) ↔ (readPolicy (s .policy) ≡ refused n p)
   unfolding decision readSlices
   policy-side n p = (
-    λ e. by-side (readPolicy (s .policy)) s n p (of-side (readSlices s) l n 0 p e),
+    λ e. sided-refused 1 (λ (A : Accepted). afterPolicy s (policyOf A)) (readPolicy (s .policy)) n p
+        (λ A. let P = policyOf A in sided-other 2 (λ (q : Request). accepted (read P q)) (requestUnder P s) n 1 p (λ z. omega arith)
+        (λ q. not-refused (read P q) n 1 p)) (of-side (readSlices s) l n 0 p e),
     λ e. ap (λ (ρ : Report). ρ .verdict) (policy-kept n p e),
   )
 
-  on-policy : (P : Policy) → ReadAs (s .policy) P → readSlices s ≡ takenOn P (readRequest (P .constants) (P .verbs) (s .request))
-  unfolding readSlices takenBy
-  on-policy P h =
-      ap (λ (r : Reading Accepted). takenBy r s) (h .2) ∙ ap (λ (P : Policy). takenOn P (readRequest (P .constants) (P .verbs) (s .request))) (h .3)
+  pub request-kept : (P : Policy) → ReadAs (s .policy) P → (n p : ℕ) → requestUnder P s ≡ refused n p → made ≡ untouched n 2 p l
+  unfolding decision sided
+  request-kept P h n p e =
+      of-kept (readSlices s) l n 2 p (on-policy s P h ∙ ap (λ (r : Reading Request). sided 2 r (λ (q : Request). accepted (read P q))) e)
 
-  pub request-kept : (P : Policy) → ReadAs (s .policy) P → (n p : ℕ) → readRequest (P .constants) (P .verbs) (s .request) ≡ refused n p
-      → made ≡ untouched n 2 p l
-  unfolding decision takenOn
-  request-kept P h n p e = of-kept (readSlices s) l n 2 p (on-policy P h ∙ ap (takenOn P) e)
-
-  pub request-side : (P : Policy) → ReadAs (s .policy) P → (n p : ℕ)
-      → (made .verdict ≡ refusal n 2 p) ↔ (readRequest (P .constants) (P .verbs) (s .request) ≡ refused n p)
+  pub request-side : (P : Policy) → ReadAs (s .policy) P → (n p : ℕ) → (made .verdict ≡ refusal n 2 p) ↔ (requestUnder P s ≡ refused n p)
   unfolding decision
   request-side P h n p = (
-    λ e. on-side P (readRequest (P .constants) (P .verbs) (s .request)) n p (sym (on-policy P h) ∙ of-side (readSlices s) l n 1 p e),
+    λ e. sided-refused 2 (λ (q : Request). accepted (read P q)) (requestUnder P s) n p (λ q. not-refused (read P q) n 2 p)
+        (sym (on-policy s P h) ∙ of-side (readSlices s) l n 1 p e),
     λ e. ap (λ (ρ : Report). ρ .verdict) (request-kept P h n p e),
   )
 

@@ -12,8 +12,8 @@ use Rattle.model.specs.Records.{Entry, recordOf}
 use Rattle.model.specs.Meant.{MoreThan, AtMost}
 use Rattle.model.specs.Deciding.{countedIn}
 use Rattle.model.specs.Bytes.{byteAt, refused}
-use Rattle.model.specs.Layout.{readPolicy, readRequest}
-use Rattle.model.specs.Decision.{Slices, Lent, Verdict, allow, deny, refusal, Report, report, capacity, room, cleared, untouched, decision}
+use Rattle.model.specs.Layout.{readPolicy}
+use Rattle.model.specs.Decision.{Slices, Lent, requestUnder, Verdict, allow, deny, refusal, Report, report, capacity, room, cleared, untouched, decision}
 use Rattle.model.specs.Theorems.{ReadAs, Inputs, DerivableIn, EntryIn, AnswerIn, InReach, Longer, withPolicy, IssuedOutside, Anyone, Positive, IsDecision}
 use Rattle.model.specs.Theorems.{answerIn, ListedIn, RecordsTell, Insiders}
 use Rattle.demands.specs.Lookups.{Reached, whoseWords}
@@ -84,9 +84,8 @@ pub record AnsweredAs (l : Lent) (ρ : Report) : Type 0 where
   pub policySide : (n p : ℕ) → (ρ .verdict ≡ refusal n 1 p) ↔ (readPolicy (l .slices .policy) ≡ refused n p)
   pub policyKeeps : (n p : ℕ) → readPolicy (l .slices .policy) ≡ refused n p → ρ ≡ untouched n 1 p l
   -- side 2, where the policy is accepted, exactly if the request reader refuses
-  pub requestSide : (P : Policy) → ReadAs (l .slices .policy) P → (n p : ℕ) → (ρ .verdict ≡ refusal n 2 p) ↔ (readRequest (P .constants) (P .verbs) (l .slices .request) ≡ refused n p)
-  pub requestKeeps : (P : Policy) → ReadAs (l .slices .policy) P → (n p : ℕ) → readRequest (P .constants) (P .verbs) (l .slices .request) ≡ refused n p
-      → ρ ≡ untouched n 2 p l
+  pub requestSide : (P : Policy) → ReadAs (l .slices .policy) P → (n p : ℕ) → (ρ .verdict ≡ refusal n 2 p) ↔ (requestUnder P (l .slices) ≡ refused n p)
+  pub requestKeeps : (P : Policy) → ReadAs (l .slices .policy) P → (n p : ℕ) → requestUnder P (l .slices) ≡ refused n p → ρ ≡ untouched n 2 p l
   -- "8 more derivable facts than capacity, and only then: fact buffer all 0, answer buffer untouched, counts 0."
   pub eight : (R : Read) → Inputs (l .slices) R → (ρ .verdict ≡ refusal 8 0 0) ↔ MoreThan (capacity (l .factBuffer)) (DerivableIn R)
   pub eightLeaves : (R : Read) → Inputs (l .slices) R → ρ .verdict ≡ refusal 8 0 0
@@ -115,8 +114,7 @@ TheAnswers = (l : Lent) (R : Read) (ρ : Report) → Call l ρ → Inputs (l .sl
 
 -- what the rules derive is what first appears in some round, and in one only
 abbrev pub TheRounds : Type 0
-TheRounds = (R : Read) (x : Said)
-    → (DerivableIn R x ↔ ((r : ℕ) × EntryIn R (r, x))) × ((r s : ℕ) → EntryIn R (r, x) → EntryIn R (s, x) → r ≡ s)
+TheRounds = (R : Read) (x : Said) → (DerivableIn R x ↔ ((r : ℕ) × EntryIn R (r, x))) × ((r s : ℕ) → EntryIn R (r, x) → EntryIn R (s, x) → r ≡ s)
 
 -- "the statements within the request's reach": those of the policy's assertions whose issuer is in the least set
 abbrev pub TheReach : Type 0
@@ -130,18 +128,14 @@ TheRecords = ((s : Slices) (R : Read) → Inputs s R → (e : Entry) → EntryIn
 
 -- "If every added issuer is outside the reach in the shorter policy, result and both buffers are the same, byte for byte."
 abbrev pub OutsidersCall : Type 0
-OutsidersCall = (l : Lent) (longer : List ℕ) (R : Read) (L : Policy) (ρ ρ′ : Report)
-    → Call l ρ → Call (withPolicy longer l) ρ′
-    → Inputs (l .slices) R → ReadAs longer L → Longer (IssuedOutside R) (R .policy) L
-    → ρ′ ≡ ρ
+OutsidersCall = (l : Lent) (longer : List ℕ) (R : Read) (L : Policy) (ρ ρ′ : Report) → Call l ρ → Call (withPolicy longer l) ρ′
+    → Inputs (l .slices) R → ReadAs longer L → Longer (IssuedOutside R) (R .policy) L → ρ′ ≡ ρ
 
 -- "Whoever issues them, if the request has no 'not' and both get a decision, every answer of the shorter is an answer of the longer."
 abbrev pub GrowingCall : Type 0
-GrowingCall = (l : Lent) (longer : List ℕ) (R : Read) (L : Policy) (ρ ρ′ : Report)
-    → Call l ρ → Call (withPolicy longer l) ρ′
-    → Inputs (l .slices) R → ReadAs longer L → Longer Anyone (R .policy) L
-    → Positive (R .request .node) → IsDecision (ρ .verdict) → IsDecision (ρ′ .verdict)
-    → (θ : List ℕ) → ListedIn ρ θ → ListedIn ρ′ θ
+GrowingCall = (l : Lent) (longer : List ℕ) (R : Read) (L : Policy) (ρ ρ′ : Report) → Call l ρ → Call (withPolicy longer l) ρ′
+    → Inputs (l .slices) R → ReadAs longer L → Longer Anyone (R .policy) L → Positive (R .request .node)
+    → IsDecision (ρ .verdict) → IsDecision (ρ′ .verdict) → (θ : List ℕ) → ListedIn ρ θ → ListedIn ρ′ θ
 
 -- "Each issuer in the reach says the same, in the same rounds, when assertions from outside it count too": no calls in it, so it stands as in the model
 abbrev pub InsidersSay : Type 0
@@ -171,5 +165,4 @@ Unmarked marks a = (a .issuer < length marks) × (byteAt marks (a .issuer) ≡ 0
 abbrev pub UnmarkedCall : Type 0
 UnmarkedCall = (l : Lent) (longer marks : List ℕ) (R : Read) (L : Policy) (κ : Reached) (ρ ρ′ : Report)
     → ReachCall (l .slices) marks κ → Call l ρ → Call (withPolicy longer l) ρ′
-    → Inputs (l .slices) R → ReadAs longer L → Longer (Unmarked (κ .marks)) (R .policy) L
-    → ρ′ ≡ ρ
+    → Inputs (l .slices) R → ReadAs longer L → Longer (Unmarked (κ .marks)) (R .policy) L → ρ′ ≡ ρ

@@ -3,7 +3,7 @@ use mathlib.Core.Path.{refl}
 use mathlib.Core.List.{[]}
 use lib.Dec.{T}
 use Rattle.model.specs.Lists.{member}
-use Rattle.model.specs.Syntax.{Policy, Request, read, says, flat, con, worldOf}
+use Rattle.model.specs.Syntax.{Policy, Request, says, flat, con, worldOf}
 use Rattle.model.specs.Requests.{issuers}
 use Rattle.model.specs.Reached.{reach}
 use Rattle.model.specs.Bytes.{Reading, got, refused}
@@ -12,7 +12,8 @@ use Rattle.model.specs.Reader.{sized, times, items, byte, u16, u32, byte
 use Rattle.model.specs.Calendar.{daysOfYears, daysOfMonths, dateOf, yearAfter}
 use Rattle.model.specs.Layout.{Accepted, policyOf, label, constant, verb, expr, constraint, levels, fact, assertion, constantItem, verbItem}
 use Rattle.model.specs.Layout.{assertionItem, asking, parts, node, slice, readPolicy, readRequest}
-use Rattle.model.specs.Decision.{slices, takenOn, takenBy, readSlices, decisionOf, decision}
+use Rattle.model.specs.Deciding.{read}
+use Rattle.model.specs.Decision.{sided, readSlices, decisionOf, decision}
 use Rattle.model.specs.Theorems.{done, keeps, adds}
 use Rattle.model.proofs.ListFacts.{member-in}
 use Rattle.model.proofs.ReachFacts.{reach-in}
@@ -24,7 +25,7 @@ unfolding
     sized times items byte u16 u32 byteIn rest list
     label constant verb expr constraint levels fact assertion constantItem verbItem assertionItem asking parts node slice readPolicy readRequest
     daysOfYears daysOfMonths dateOf yearAfter
-    takenOn takenBy readSlices decisionOf decision
+    sided readSlices decisionOf decision
 rows = (refl, refl, refl)
 
 pub belt : Belt
@@ -68,7 +69,7 @@ unfolding
     u16At u32At choose andThen
     sized times items byte u16 u32 byteIn rest list
     label constant verb expr constraint levels fact assertion constantItem verbItem assertionItem asking parts node slice readPolicy readRequest
-    takenOn takenBy readSlices decisionOf decision
+    sided readSlices decisionOf decision
 beltPair = record {
   shorter = read short asked;
   longer = long;

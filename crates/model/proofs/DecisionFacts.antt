@@ -9,17 +9,17 @@ use lib.ListN.{length, take, drop, getD}
 use lib.Seq.{take-at, drop-at, drop-drop}
 use Rattle.model.specs.Limits.{answerBytes}
 use Rattle.model.specs.Lists.{each, sorted}
-use Rattle.model.specs.Syntax.{Assertion, Policy, Request, Node, World, Read, read, worldIn}
+use Rattle.model.specs.Syntax.{Assertion, Policy, Request, Node, World, Read, worldIn}
 use Rattle.model.specs.Rules.{Rule}
 use Rattle.model.specs.Records.{Entry, keyOf, answerOf, answersBytes}
 use Rattle.model.specs.Meant.{Outcome, tooManyFacts, tooManyAnswers, decided}
 use Rattle.model.specs.Rounds.{lastRound}
 use Rattle.model.specs.Steps.{eqSaid, step}
-use Rattle.model.specs.Deciding.{outcome, decide, countedIn}
+use Rattle.model.specs.Deciding.{outcome, decide, read, countedIn}
 use Rattle.model.specs.Bytes.{Reading, got, refused}
 use Rattle.model.specs.Policies.{Accepted, policyOf, readPolicy}
 use Rattle.model.specs.Nodes.{readRequest}
-use Rattle.model.specs.Decision.{Slices, Lent, Taken, accepted, refusedOn, takenOn, takenBy, readSlices}
+use Rattle.model.specs.Decision.{Slices, Lent, Taken, accepted, refusedOn, requestUnder, sided, readSlices}
 use Rattle.model.specs.Decision.{Report, capacity, room, reported, decisionOf, decision}
 use Rattle.model.specs.Theorems.{ReadAs, AskedAs, Inputs, InputsBySlice, answerIn}
 use Rattle.model.proofs.RoundFacts as S
@@ -34,30 +34,37 @@ accepted-same R S e = cc
 not-accepted : (n side p : ℕ) (R : Read) → refusedOn n side p ≡ accepted R → ⊥
 not-accepted n side p R e = let z : _≡_ {A = ℕ} 0 1 = cc in omega arith
 
-on-accepted : (P : Policy) (r : Reading Request) (R : Read) → takenOn P r ≡ accepted R → (P ≡ R .policy) × ((e : ℕ) × (r ≡ got (R .request) e))
-unfolding takenOn
-on-accepted P (got q e) R h =
-    let k = accepted-same (read P q) R h in
-    (ap (λ (S : Read). S .policy) k, (e, ap (λ (S : Read). got (S .request) e) k))
-on-accepted P (refused n p) R h = absurd (not-accepted n 2 p R h)
+sided-accepted : {A : Type 0} (side : ℕ) (r : Reading A) (next : A → Taken) (R : Read) → sided side r next ≡ accepted R
+    → (a : A) × (e : ℕ) × (r ≡ got a e) × (next a ≡ accepted R)
+unfolding sided
+sided-accepted side (got a e) next R h = (a, e, refl, h)
+sided-accepted side (refused n p) next R h = absurd (not-accepted n side p R h)
 
-by-accepted : (r : Reading Accepted) (s : Slices) (R : Read) → takenBy r s ≡ accepted R
-    → ((A : Accepted) × (e : ℕ) × (r ≡ got A e) × (policyOf A ≡ R .policy)) × AskedAs (R .policy) (s .request) (R .request)
-unfolding takenBy
-by-accepted (got A e) s R h =
-    let k = on-accepted (policyOf A) (readRequest (policyOf A .constants) (policyOf A .verbs) (s .request)) R h in
-    ((A, e, refl, k .0), subst (λ (P : Policy). AskedAs P (s .request) (R .request)) (k .0) (k .1))
-by-accepted (refused n p) s R h = absurd (not-accepted n 1 p R h)
+-- what is read after the policy
+abbrev pub afterPolicy : Slices → Policy → Taken
+afterPolicy s P = sided 2 (requestUnder P s) (λ (q : Request). accepted (read P q))
+
+pub on-policy : (s : Slices) (P : Policy) → ReadAs (s .policy) P → readSlices s ≡ afterPolicy s P
+unfolding readSlices sided
+on-policy s P h = ap (λ (r : Reading Accepted). sided 1 r (λ (A : Accepted). afterPolicy s (policyOf A))) (h .2) ∙ ap (afterPolicy s) (h .3)
 
 pub slice-by-slice : (s : Slices) (R : Read) → Inputs s R → InputsBySlice s R
 unfolding readSlices
-slice-by-slice s R h = let k = by-accepted (readPolicy (s .policy)) s R h in record { readAs = k .0; askedAs = k .1 }
+slice-by-slice s R h =
+    let k = sided-accepted 1 (readPolicy (s .policy)) (λ (A : Accepted). afterPolicy s (policyOf A)) R h in
+    let P = policyOf (k .0) in
+    let m = sided-accepted 2 (requestUnder P s) (λ (q : Request). accepted (read P q)) R (k .3) in
+    let same = accepted-same (read P (m .0)) R (m .3) in
+    record {
+      readAs = (k .0, k .1, k .2, ap (λ (S : Read). S .policy) same);
+      askedAs = subst (λ (P : Policy). AskedAs P (s .request) (R .request)) (ap (λ (S : Read). S .policy) same)
+          (m .1, m .2 ∙ ap (λ (S : Read). got (S .request) (m .1)) same);
+    }
 
 pub of-slices : (s : Slices) (R : Read) → InputsBySlice s R → Inputs s R
-unfolding readSlices takenBy takenOn
+unfolding sided
 of-slices s R h =
-    ap (λ (r : Reading Accepted). takenBy r s) (h .readAs .2)
-    ∙ (ap (λ (P : Policy). takenOn P (readRequest (P .constants) (P .verbs) (s .request))) (h .readAs .3) ∙ ap (takenOn (R .policy)) (h .askedAs .1))
+    on-policy s (R .policy) (h .readAs) ∙ ap (λ (r : Reading Request). sided 2 r (λ (q : Request). accepted (read (R .policy) q))) (h .askedAs .1)
 
 pub reports : (l : Lent) (R : Read) → Inputs (l .slices) R
     → decision l ≡ reported (decide R (capacity (l .factBuffer)) (room (l .answerBuffer))) l

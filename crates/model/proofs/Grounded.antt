@@ -9,7 +9,7 @@ use lib.Dec.{T, eqb, leb, leb→le, eqb→eq}
 use Rattle.model.specs.Limits.{principal, quantity, unlimited, unbound, canActAs}
 use Rattle.model.specs.Lists.{all, each, member}
 use Rattle.model.specs.Syntax.{Expr, con, var, today, Fact, flat, canSay, mapFact, about, Assertion, Constant, Verb}
-use Rattle.model.specs.Syntax.{Policy, Request, World, worldOf, read, Said, said, varsOf}
+use Rattle.model.specs.Syntax.{Policy, Request, World, worldOf, Said, said, varsOf}
 use Rattle.model.specs.Kinds.{kindAt, paramKinds, Demands, demandsOf, places, pair, inPlace, comparable, fitting}
 use Rattle.model.specs.Values.{bound}
 use Rattle.model.specs.Binding.{Fits, Binds, inPlaces}
@@ -18,7 +18,7 @@ use Rattle.model.specs.Rules.{Rule, cond, canSays, actsAs}
 use Rattle.model.specs.Requests.{issuers}
 use Rattle.model.specs.Records.{Arity}
 use Rattle.model.specs.Reached.{reach, issuedIn}
-use Rattle.model.specs.Deciding.{countingIn}
+use Rattle.model.specs.Deciding.{countingIn, read}
 use Rattle.model.specs.Forms.{isKind}
 use Rattle.model.specs.Theorems.{ReadAs, DerivableIn, GroundFact, GroundSaid}
 use Rattle.model.proofs.ListFacts.{and-of, all-of, keep-of, each-in, eqb-in, or-left, member-of, member-in}

@@ -8,17 +8,17 @@ use native.Mathlib.Decide.{decLt}
 use lib.ListN.{length, getD, List·getD-eq-default}
 use Rattle.model.specs.Limits.{unbound, answerBytes}
 use Rattle.model.specs.Lists.{all, each}
-use Rattle.model.specs.Syntax.{today, Assertion, Constant, Policy, Request, Node, World, Read, read, worldIn}
+use Rattle.model.specs.Syntax.{today, Assertion, Constant, Policy, Request, Node, World, Read, worldIn}
 use Rattle.model.specs.Kinds.{noConstant, demandsIn, inPlace, comparable}
 use Rattle.model.specs.Closure.{Derives, First}
 use Rattle.model.specs.Rules.{Rule}
 use Rattle.model.specs.Requests.{issuers, kindsIn, freeKinds, bindingsIn}
 use Rattle.model.specs.Records.{Entry, keyOf, answersBytes, Arity}
-use Rattle.model.specs.Meant.{Outcome, tooManyFacts, tooManyAnswers, decided, MoreThan, AtMost, Enumerates, Derivable, FirstIn, Satisfies, itself, Meant, fullTable}
-use Rattle.model.specs.Meant.{fullAnswers, allListed}
+use Rattle.model.specs.Meant.{Outcome, tooManyFacts, tooManyAnswers, decided, MoreThan, AtMost, Enumerates, Derivable, FirstIn, Satisfies}
+use Rattle.model.specs.Meant.{itself, Meant, fullTable, fullAnswers, allListed}
 use Rattle.model.specs.Steps.{eqSaid, step}
 use Rattle.model.specs.Reached.{issuedIn, reach, counting}
-use Rattle.model.specs.Deciding.{outcome, decide, countedIn}
+use Rattle.model.specs.Deciding.{outcome, decide, read, countedIn}
 use Rattle.model.specs.Decision.{Slices, Lent, allow, deny, refusal, Report, capacity, room, atFront, word, reported, decision}
 use Rattle.model.specs.Theorems as Q
 use Rattle.model.specs.Theorems.{Inputs, ReadAs, Longer, withPolicy, IsDecision, ListedIn, answerIn, MeantBy}
@@ -67,7 +67,8 @@ module _ (s : Slices) (R : Read) (h : Inputs s R) where
   counting-arity : (a : Assertion) → List·Memᴰ a (countedIn R) → Arity (R .policy .verbs) (a .head)
   counting-arity a m =
       let 𝒜 = R .policy .assertions in
-      policy-fine (s .policy) (R .policy) (slice-by-slice s R h .readAs) a (keep-of (issuedIn (reach (worldIn R) 𝒜 (issuers (R .request .node) (worldIn R)))) 𝒜 m .0) .arity
+      let W = worldIn R in
+      policy-fine (s .policy) (R .policy) (slice-by-slice s R h .readAs) a (keep-of (issuedIn (reach W 𝒜 (issuers (R .request .node) W))) 𝒜 m .0) .arity
 
   meant-by : (c r : ℕ) → MeantBy R c r (decide R c r)
   meant-by c r = meant (worldIn R) (countedIn R) (R .request .node) c r counting-arity

@@ -27,22 +27,22 @@ slices policy request = record { policy = policy; request = request }
 abbrev pub lent : List ℕ → List ℕ → List ℕ → List ℕ → Lent
 lent policy request facts answers = record { slices = slices policy request; factBuffer = facts; answerBuffer = answers }
 
+abbrev pub requestUnder : Policy → Slices → Reading Request
+requestUnder P s = readRequest (P .constants) (P .verbs) (s .request)
+
 -- what the slices say, or "a refusal's number, side and place"
 pub data Taken : Type 0 where
   accepted : Read → Taken
   refusedOn : ℕ → ℕ → ℕ → Taken
 
-unfoldable pub takenOn : Policy → Reading Request → Taken
-takenOn P (got q e) = accepted (record { policy = P; request = q })
-takenOn P (refused n p) = refusedOn n 2 p
+-- a slice is read whole before the next; its refusal has its side
+unfoldable pub sided : {A : Type 0} → ℕ → Reading A → (A → Taken) → Taken
+sided side (got a e) next = next a
+sided side (refused n p) next = refusedOn n side p
 
 -- "side 1 policy or 2 request"; "Policy before request"
-unfoldable pub takenBy : Reading Accepted → Slices → Taken
-takenBy (got A e) s = let P = policyOf A in takenOn P (readRequest (P .constants) (P .verbs) (s .request))
-takenBy (refused n p) s = refusedOn n 1 p
-
 unfoldable pub readSlices : Slices → Taken
-readSlices s = takenBy (readPolicy (s .policy)) s
+readSlices s = sided 1 (readPolicy (s .policy)) (λ A. let P = policyOf A in sided 2 (requestUnder P s) (λ q. accepted (record { policy = P; request = q })))
 
 -- "the decision word or a refusal's number, side and place"
 pub data Verdict : Type 0 where

@@ -82,9 +82,6 @@ pub record Read : Type 0 where
   pub policy : Policy
   pub request : Request
 
-abbrev pub read : Policy → Request → Read
-read P q = record { policy = P; request = q }
-
 abbrev pub worldIn : Read → World
 worldIn R = worldOf (R .policy) (R .request)
 

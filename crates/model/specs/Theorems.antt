@@ -132,18 +132,15 @@ InstanceBindings = (policy : List ℕ) (P : Policy) (q : Request) → ReadAs pol
     → (θ : List ℕ) → List·Memᴰ θ (bindingsOf (worldOf P q) a)
     ↔ ((κ : List ℕ) × Fits (P .constants) (demandsOf (P .verbs) a) κ × Binds (P .constants) κ (inPlaces (demandsOf (P .verbs) a)) θ)
 
--- a choice of kinds fits what the request's node asks
-abbrev pub FitsNode : Read → List ℕ → Type 0
-FitsNode R = Fits (R .policy .constants) (demandsIn (R .request .node) (R .policy .verbs))
-
 -- "Bindings range over the policy's constants of the variable's kind. .. 255 where not free": those of a request likewise
 abbrev pub AnswerBindings : Type 0
 AnswerBindings = (s : Slices) (R : Read) → Inputs s R → (θ : List ℕ) → List·Memᴰ θ (bindingsIn (worldIn R) (R .request .node))
-    ↔ ((κ : List ℕ) × FitsNode R κ × Binds (R .policy .constants) κ (free (R .request .node)) θ)
+    ↔ ((κ : List ℕ) × Fits (R .policy .constants) (demandsIn (R .request .node) (R .policy .verbs)) κ
+    × Binds (R .policy .constants) κ (free (R .request .node)) θ)
 
 -- the reader asks item by item; what an accepted request was asked is what its whole node asks, and a choice of kinds fits it
 abbrev pub WholeNodeFits : Type 0
-WholeNodeFits = (s : Slices) (R : Read) → Inputs s R → (κ : List ℕ) × FitsNode R κ
+WholeNodeFits = (s : Slices) (R : Read) → Inputs s R → (κ : List ℕ) × Fits (R .policy .constants) (demandsIn (R .request .node) (R .policy .verbs)) κ
 
 -- 255 is no constant's number
 abbrev pub BelowUnbound : Type 0
