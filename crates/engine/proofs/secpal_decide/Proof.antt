@@ -6,7 +6,7 @@ use Rattle.engine.proofs.secpal_decide.Tie as tie
 
 -- the entry, from the place after the decision
 abbrev entry : tie.After-decide → tie.Start
-entry c = let lent = c .before .before .before in lent .before .before .before .before
+entry c = let called = c .before .before .before in called .before .before .before .before
 
 abbrev given : tie.Start → Lent
 given c = let a = c .args in lent (a .policy .now) (a .request .now) (a .facts .now) (a .answers .now)
