@@ -11,7 +11,7 @@ use Rattle.model.specs.Syntax.{Constant, Verb}
 use Rattle.model.specs.Bytes.{Reading, got, refused}
 use Rattle.model.specs.Policies.{Accepted, policyOf, readPolicy}
 use Rattle.model.specs.Nodes.{readRequest}
-use Rattle.model.specs.Decision.{Taken, accepted, refusedOn, lent, slices, sided, readSlices, report, refusal, decisionOf, decision}
+use Rattle.model.specs.Decision.{Slices, Lent, slices, lent, Taken, accepted, refusedOn, sided, readSlices, untouched, decisionOf, decision}
 use Rattle.model.specs.Deciding.{read}
 use Rattle.model.proofs.DecisionFacts.{afterPolicy, on-policy}
 use Rattle.demands.specs.Demands.{Call}
@@ -36,16 +36,16 @@ unfolding policies.handedOut policies.refusal indexOf
 policy-refused (got A e) n p h = absurd (let z : _≡_ {A = ℕ} 0 1 = cc in omega arith)
 policy-refused (refused m k) n p h = let a : m ≡ n = cc in let b : k ≡ p = cc in λ i. refused (a i) (b i)
 
-pub policy-taken : (policy request : List ℕ) (n p : ℕ) → readPolicy policy ≡ refused n p → readSlices (slices policy request) ≡ refusedOn n 1 p
+pub policy-taken : (s : Slices) (n p : ℕ) → readPolicy (s .policy) ≡ refused n p → readSlices s ≡ refusedOn n 1 p
 unfolding readSlices sided
-policy-taken policy request n p e = ap (λ (r : Reading Accepted). sided 1 r (λ (A : Accepted). afterPolicy (slices policy request) (policyOf A))) e
+policy-taken s n p e = ap (λ (r : Reading Accepted). sided 1 r (λ (A : Accepted). afterPolicy s (policyOf A))) e
 
-pub policy-call : (policy request facts answers : List ℕ) (x : Index) (n p : ℕ) → x ≡ policies.handedOut (readPolicy policy) → x .answer ≡ answered.Refused n p
-    → Call (lent policy request facts answers) (report (refusal n 1 p) 0 0 0 facts answers)
+pub policy-call : (l : Lent) (x : Index) (n p : ℕ) → x ≡ policies.handedOut (readPolicy (l .slices .policy)) → x .answer ≡ answered.Refused n p
+    → Call l (untouched n 1 p l)
 unfolding decision decisionOf
-policy-call policy request facts answers x n p i h =
-    sym (ap (λ (t : Taken). decisionOf t (lent policy request facts answers)) (policy-taken policy request n p (policy-refused (readPolicy policy) n p
-    (ap (λ (x : Index). x .answer) (sym i) ∙ h))))
+policy-call l x n p i h =
+    let refuses = policy-refused (readPolicy (l .slices .policy)) n p (ap (λ (x : Index). x .answer) (sym i) ∙ h) in
+    sym (ap (λ (t : Taken). decisionOf t l) (policy-taken (l .slices) n p refuses))
 
 -- ---- the request
 
@@ -99,6 +99,6 @@ module _ (policy request : List ℕ) (x : Index) (i : x ≡ policies.handedOut (
       ∙ ap (λ (y : Reading syntax.Request). sided 2 y (λ (q : syntax.Request). accepted (read (policyOf (w .0)) q))) (reading-refused z)
 
   pub request-call : (r .refusal ≡ 0 → ⊥) → (facts answers : List ℕ)
-      → Call (lent policy request facts answers) (report (refusal (r .refusal) 2 (r .place)) 0 0 0 facts answers)
+      → (let l = lent policy request facts answers in Call l (untouched (r .refusal) 2 (r .place) l))
   unfolding decision decisionOf
   request-call z facts answers = sym (ap (λ (t : Taken). decisionOf t (lent policy request facts answers)) (request-taken z))

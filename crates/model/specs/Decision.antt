@@ -21,12 +21,14 @@ pub record Lent : Type 0 where
   pub factBuffer : List ℕ
   pub answerBuffer : List ℕ
 
+-- put together from the lists that a function is lent, for contracts of code
 abbrev pub slices : List ℕ → List ℕ → Slices
 slices policy request = record { policy = policy; request = request }
 
 abbrev pub lent : List ℕ → List ℕ → List ℕ → List ℕ → Lent
 lent policy request facts answers = record { slices = slices policy request; factBuffer = facts; answerBuffer = answers }
 
+-- a request is read by the policy's constants and verbs
 abbrev pub requestUnder : Policy → Slices → Reading Request
 requestUnder P s = readRequest (P .constants) (P .verbs) (s .request)
 

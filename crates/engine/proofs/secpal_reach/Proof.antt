@@ -18,8 +18,8 @@ returns-2 c =
     let entry = read .before .before .before .before in
     let args = entry .args in
     let says = policy-refused (readPolicy (args .policy .now)) _ _ (ap (λ (x : Index). x .answer) (sym (read .read .ensures)) ∙ told .a .given .1) in
-    let taken = policy-taken (args .policy .now) (args .request .now) _ _ says in
-    let words = sym (refused-words (slices (args .policy .now) (args .request .now)) (args .marks .now) _ 1 _ taken) in
+    let s = slices (args .policy .now) (args .request .now) in
+    let words = sym (refused-words s (args .marks .now) _ 1 _ (policy-taken s _ _ says)) in
     (c .refused .ensures ∙ ap refusalOf words, ap (λ (κ : Reached). κ .marks) words)
 
 pub secpal-reach-spec : {M : Type 1} → statement M
