@@ -5,8 +5,8 @@
  * docs/FORMAT.md has the layout of policies, requests, records and answers to the byte, and every refusal with its condition and place.
  *
  * What a call costs: each call but secpal_version reads the policy once, from front to back: about 0.001 ms for the belt policy of 114 bytes,
- * 0.5 ms for one of 6,000 bytes with 255 constants. secpal_reach and secpal_decide then read the request. secpal_decide derives, which takes as
- * long as the policy makes it take: from 0.02 ms to many minutes. NO CALL HAS A LIMIT OF TIME. Every call ends, by proof, but a host that takes
+ * 0.02 ms for one of 6,000 bytes with 255 constants. secpal_reach and secpal_decide then read the request. secpal_decide derives, which takes as
+ * long as the policy makes it take: from 0.004 ms to many minutes. NO CALL HAS A LIMIT OF TIME. Every call ends, by proof, but a host that takes
  * policies from strangers should run secpal_decide where it can give it up, in a process of its own. docs/SPEED.md has figures.
  *
  * In a debugger: the archive is optimized code. It has the names of its functions, but no line numbers, no variables and no unwind tables
