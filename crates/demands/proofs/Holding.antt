@@ -9,7 +9,7 @@ use lib.ListN.{length, drop, getD, length-map}
 use lib.Dec.{T}
 use Rattle.model.specs.Limits.{recordBytes, answerBytes}
 use Rattle.model.specs.Lists.{before}
-use Rattle.model.specs.Syntax.{Assertion, Policy, Request, World, worldOf, Said, said, flat}
+use Rattle.model.specs.Syntax.{Assertion, Read, World, worldIn, Said, said, flat}
 use Rattle.model.specs.Closure.{Within}
 use Rattle.model.specs.Rules.{Rule}
 use Rattle.model.specs.Requests.{issuers, freeKinds}
@@ -17,14 +17,14 @@ use Rattle.model.specs.Records.{Entry, key, keyOf, recordOf, recordsOf, answerO
 use Rattle.model.specs.Meant.{AtMost, Distinct, Ascends, Enumerates, itself}
 use Rattle.model.specs.Rounds.{lastRound}
 use Rattle.model.specs.Steps.{eqSaid, step}
-use Rattle.model.specs.Deciding.{countingIn}
-use Rattle.model.specs.Decision.{Verdict, allow, deny, report, capacity, room, atFront}
+use Rattle.model.specs.Deciding.{countedIn}
+use Rattle.model.specs.Decision.{Slices, Lent, Verdict, allow, deny, report, capacity, room, atFront}
 use Rattle.model.specs.Theorems.{Inputs, DerivableIn, EntryIn, AnswerIn, InReach, answerIn}
 use Rattle.model.proofs.Order.{before-irrefl, ascends-distinct}
 use Rattle.model.proofs.RoundFacts as S
 use Rattle.model.proofs.BindingFacts.{bindings-of}
 use Rattle.model.proofs.StepFacts.{eqSaid-of, eqSaid-refl, step-of, step-in}
-use Rattle.model.proofs.DecisionFacts.{getD-in, in-getD}
+use Rattle.model.proofs.DecisionFacts.{slice-by-slice, getD-in, in-getD}
 use Rattle.model.proofs.Theorems.{computedReach}
 use Rattle.demands.specs.Demands.{recordIn, TableOf, AnswersOf}
 use Rattle.demands.proofs.Blocks.{block-at, blocks-length, filled-is, ascends-at}
@@ -59,40 +59,45 @@ none = (0, said 0 0 (flat 0 0 []))
 
 -- ---- the reach and the rounds
 
-pub counts↔ : (P : Policy) (q : Request) (a : Assertion) → List·Memᴰ a (countingIn P q) ↔ (List·Memᴰ a (P .assertions) × InReach P q (a .issuer))
-counts↔ P q a = computedReach (worldOf P q) (P .assertions) (issuers (q .node) (worldOf P q)) .1 a
+pub counts↔ : (R : Read) (a : Assertion) → List·Memᴰ a (countedIn R) ↔ (List·Memᴰ a (R .policy .assertions) × InReach R (a .issuer))
+counts↔ R a = computedReach (worldIn R) (R .policy .assertions) (issuers (R .request .node) (worldIn R)) .1 a
 
-module _ (P : Policy) (q : Request) where
+module _ (R : Read) where
   abbrev W : World
-  W = worldOf P q
+  W = worldIn R
 
   abbrev 𝒜 : List Assertion
-  𝒜 = countingIn P q
+  𝒜 = countedIn R
 
-  pub entry-derives : (r : ℕ) (x : Said) → EntryIn P q (r, x) → DerivableIn P q x
+  pub entry-derives : (r : ℕ) (x : Said) → EntryIn R (r, x) → DerivableIn R x
   entry-derives r x f = S.first→derives eqSaid (step W 𝒜) (Rule W 𝒜) eqSaid-of eqSaid-refl (step-of W 𝒜) (step-in W 𝒜) r x f
 
-  pub first-round : (n : ℕ) (x : Said) → Within (Rule W 𝒜) n x → (r : ℕ) × EntryIn P q (r, x)
+  pub first-round : (n : ℕ) (x : Said) → Within (Rule W 𝒜) n x → (r : ℕ) × EntryIn R (r, x)
   first-round n x w = let f = S.first eqSaid (step W 𝒜) (Rule W 𝒜) eqSaid-of eqSaid-refl (step-of W 𝒜) (step-in W 𝒜) n x w in (suc (f .0), f .2)
 
   -- ---- a table within its capacity
 
-  pub table-fits : (c : ℕ) (F : List Entry) → AtMost c (DerivableIn P q) → Enumerates keyOf (EntryIn P q) F → length F ≤ c
+  pub table-fits : (c : ℕ) (F : List Entry) → AtMost c (DerivableIn R) → Enumerates keyOf (EntryIn R) F → length F ≤ c
   table-fits c F a f =
       let l : length (map statement F) ≤ c =
       a (map statement F) (distinct-statements F (f .ascends))
-      (λ x m. let w = Memᴰ·of-map statement F m in subst (DerivableIn P q) (w .2) (entry-derives (w .0 .0) (w .0 .1) (f .only (w .0) (w .1)))) in
+      (λ x m. let w = Memᴰ·of-map statement F m in subst (DerivableIn R) (w .2) (entry-derives (w .0 .0) (w .0 .1) (f .only (w .0) (w .1)))) in
       omega (arith, length-map F statement)
 
-  module _ (policy request : List ℕ) (h : Inputs policy request P q) where
-    pub record-length : (e : Entry) → EntryIn P q e → length (recordOf e) ≡ recordBytes
+  module _ (s : Slices) (h : Inputs s R) where
+    pub record-length : (e : Entry) → EntryIn R e → length (recordOf e) ≡ recordBytes
     record-length e f =
-        ap (λ (n : ℕ). suc (suc n)) (key-length (e .1) (shaped W 𝒜 (λ a m. policy-formed policy P (h .readAs) a (counts↔ P q a .0 m .0)) (e .1)
+        let read = slice-by-slice s R h .readAs in
+        ap (λ (n : ℕ). suc (suc n)) (key-length (e .1) (shaped W 𝒜 (λ a m. policy-formed (s .policy) (R .policy) read a (counts↔ R a .0 m .0)) (e .1)
         (entry-derives (e .0) (e .1) f)))
 
-    pub table-of : (facts : List ℕ) (F : List Entry) → Enumerates keyOf (EntryIn P q) F → length F ≤ capacity facts → (v : Verdict) (n : ℕ) (answers : List ℕ)
-        → TableOf P q facts (report v (length F) (lastRound F) n (atFront facts (recordsOf F)) answers)
-    table-of facts F f l v n answers = record {
+  module _ (l : Lent) (h : Inputs (l .slices) R) where
+    abbrev facts : List ℕ
+    facts = l .factBuffer
+
+    pub table-of : (F : List Entry) → Enumerates keyOf (EntryIn R) F → length F ≤ capacity facts → (v : Verdict) (n : ℕ) (answers : List ℕ)
+        → TableOf l R (report v (length F) (lastRound F) n (atFront facts (recordsOf F)) answers)
+    table-of F f k v n answers = record {
       stands = λ b. (
         λ s. (getD F (s .0) none, f .only (getD F (s .0) none) (getD-in none F (s .0) (s .1)), sym (at (s .0) (s .1)) ∙ s .2),
         λ t. let m = in-getD none (f .every (t .0) (t .1)) in (m .0, m .1, at (m .0) (m .1) ∙ (ap recordOf (m .2) ∙ t .2)),
@@ -105,33 +110,36 @@ module _ (P : Policy) (q : Request) where
     }
       where
         long : (e : Entry) → List·Memᴰ e F → length (recordOf e) ≡ recordBytes
-        long e m = record-length e (f .only e m)
+        long e m = record-length (l .slices) h e (f .only e m)
 
         at : (i : ℕ) → i < length F → recordIn (atFront facts (recordsOf F)) i ≡ recordOf (getD F i none)
         at i k = block-at recordOf recordBytes none F _ long i k
 
         go : ((x : Said) × List·Memᴰ {A = Entry} (lastRound F, x) F) ⊎ ((length F ≡ 0) × (lastRound F ≡ 0))
-            → ((x : Said) × EntryIn P q (lastRound F, x)) ⊎ ((length F ≡ 0) × (lastRound F ≡ 0))
+            → ((x : Said) × EntryIn R (lastRound F, x)) ⊎ ((length F ≡ 0) × (lastRound F ≡ 0))
         go (inl m) = inl (m .0, f .only (lastRound F, m .0) (m .1))
         go (inr z) = inr z
 
   -- ---- answers within their room
 
-  binding-length : (θ : List ℕ) → AnswerIn P q θ → length θ ≡ answerBytes
-  binding-length θ s = bindings-of (W .constants) (freeKinds W (q .node)) θ (s .0) .0
+  binding-length : (θ : List ℕ) → AnswerIn R θ → length θ ≡ answerBytes
+  binding-length θ s = bindings-of (W .constants) (freeKinds W (R .request .node)) θ (s .0) .0
 
-  module _ (answers : List ℕ) (A : List (List ℕ)) (g : Enumerates itself (AnswerIn P q) A) (b : AtMost (room answers) (AnswerIn P q)) where
+  module _ (l : Lent) (A : List (List ℕ)) (g : Enumerates itself (AnswerIn R) A) (b : AtMost (room (l .answerBuffer)) (AnswerIn R)) where
+    abbrev answers : List ℕ
+    answers = l .answerBuffer
+
     long : (θ : List ℕ) → List·Memᴰ θ A → length θ ≡ answerBytes
     long θ m = binding-length θ (g .only θ m)
 
     at : (i : ℕ) → i < length A → answerIn (atFront answers (answersBytes A)) i ≡ getD A i []
     at i k = block-at answerOf answerBytes [] A _ long i k
 
-    pub answers-of : (v : Verdict) (n r : ℕ) (facts : List ℕ) → ((v ≡ allow) ↔ ((θ : List ℕ) × AnswerIn P q θ))
-        × ((v ≡ deny) ↔ (¬ ((θ : List ℕ) × AnswerIn P q θ)))
-        → AnswersOf P q answers (report v n r (length A) facts (atFront answers (answersBytes A)))
+    pub answers-of : (v : Verdict) (n r : ℕ) (facts : List ℕ) → ((v ≡ allow) ↔ ((θ : List ℕ) × AnswerIn R θ))
+        × ((v ≡ deny) ↔ (¬ ((θ : List ℕ) × AnswerIn R θ)))
+        → AnswersOf l R (report v n r (length A) facts (atFront answers (answersBytes A)))
     answers-of v n r facts w =
-        let l : length A ≤ room answers = b A (ascends-distinct itself A (g .ascends)) (g .only) in
+        let fits : length A ≤ room answers = b A (ascends-distinct itself A (g .ascends)) (g .only) in
         record {
           allows = w .0;
           denies = w .1;

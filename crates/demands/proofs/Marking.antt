@@ -8,15 +8,14 @@ use native.Mathlib.Omega.{arith}
 use lib.ListN.{length}
 use lib.Dec.{T}
 use Rattle.model.specs.Lists.{member}
-use Rattle.model.specs.Syntax.{Assertion, Policy, Request, worldOf}
+use Rattle.model.specs.Syntax.{Assertion, Read, worldIn}
 use Rattle.model.specs.Requests.{issuers}
-use Rattle.model.specs.Bytes.{byteAt, Reading}
-use Rattle.model.specs.Policies.{Accepted}
-use Rattle.model.specs.Nodes.{readRequest}
+use Rattle.model.specs.Bytes.{byteAt}
+use Rattle.model.specs.Decision.{Slices, Taken}
 use Rattle.model.specs.Theorems.{Inputs, InReach, Adds, done, keeps, adds}
 use Rattle.model.proofs.ListFacts.{member-of, member-in}
 use Rattle.model.proofs.Theorems.{computedReach}
-use Rattle.demands.specs.Lookups.{reachOf, marksFrom, Reached, reached, reachedOn, reachedBy, whoseWords}
+use Rattle.demands.specs.Lookups.{reachOf, marksFrom, Reached, reached, reachedBy, whoseWords}
 use Rattle.demands.specs.Demands.{MarksOf}
 use Rattle.model.proofs.Tests.{T-true}
 
@@ -45,31 +44,26 @@ one-or-none : (b : Bool) (m : ℕ) → m ≡ cond b 1 0 → ((m ≡ 1) → ⊥) 
 one-or-none true m e h = absurd (h e)
 one-or-none false m e h = e
 
--- ---- an accepted policy and request
+-- ---- accepted slices
 
-module _ (policy request marks : List ℕ) (P : Policy) (q : Request) (h : Inputs policy request P q) where
+module _ (s : Slices) (R : Read) (marks : List ℕ) (h : Inputs s R) where
   abbrev set : List ℕ
-  set = reachOf P q
+  set = reachOf R
 
-  pub given : whoseWords policy request marks ≡ reached 0 0 0 (marksFrom set (length marks) 0)
-  unfolding whoseWords reachedBy reachedOn
-  given =
-      let r = h .readAs in
-      let a = h .askedAs in
-      ap (λ (p : Reading Accepted). reachedBy p request marks) (r .2)
-      ∙ ap (λ (X : Policy). reachedOn X (readRequest (X .constants) (X .verbs) request) marks) (r .3)
-      ∙ ap (λ (x : Reading Request). reachedOn P x marks) (a .1)
+  pub given : whoseWords s marks ≡ reached 0 0 0 (marksFrom set (length marks) 0)
+  unfolding whoseWords reachedBy
+  given = ap (λ (t : Taken). reachedBy t marks) h
 
   mark-is : (i : ℕ) → i < length marks → byteAt (marksFrom set (length marks) 0) i ≡ cond (member i set) 1 0
   mark-is i l = let e : 0 + i ≡ i = omega arith in marks-at set (length marks) 0 i l ∙ ap (λ (k : ℕ). cond (member k set) 1 0) e
 
-  inside : (i : ℕ) → i < length marks → (byteAt (marksFrom set (length marks) 0) i ≡ 1) ↔ InReach P q i
+  inside : (i : ℕ) → i < length marks → (byteAt (marksFrom set (length marks) 0) i ≡ 1) ↔ InReach R i
   inside i l =
       let m = one-in i set _ (mark-is i l) in
-      let c = computedReach (worldOf P q) (P .assertions) (issuers (q .node) (worldOf P q)) .0 i in
+      let c = computedReach (worldIn R) (R .policy .assertions) (issuers (R .request .node) (worldIn R)) .0 i in
       (λ k. c .0 (m .0 k), λ k. m .1 (c .1 k))
 
-  marks-given : MarksOf P q marks (reached 0 0 0 (marksFrom set (length marks) 0))
+  marks-given : MarksOf R marks (reached 0 0 0 (marksFrom set (length marks) 0))
   marks-given = record {
     accepted = refl;
     long = marks-long set (length marks) 0;
@@ -80,8 +74,8 @@ module _ (policy request marks : List ℕ) (P : Policy) (q : Request) (h : Input
     );
   }
 
-  pub marks-of : (κ : Reached) → κ ≡ whoseWords policy request marks → MarksOf P q marks κ
-  marks-of κ c = subst (MarksOf P q marks) (sym (c ∙ given)) marks-given
+  pub marks-of : (κ : Reached) → κ ≡ whoseWords s marks → MarksOf R marks κ
+  marks-of κ c = subst (MarksOf R marks) (sym (c ∙ given)) marks-given
 
 -- ---- added assertions, by another property of them
 

@@ -1,18 +1,19 @@
 -- Which side a verdict is of, and what it was read from.
 use mathlib.Core.Path.{_≡_, refl, sym, ap, subst, _∙_}
 use mathlib.Core.Logic.{_↔_}
-use mathlib.Core.List.{List, [], _∷_, List·Memᴰ·head, List·Memᴰ·tail}
+use mathlib.Core.List.{List, [], _∷_, List·Memᴰ, List·Memᴰ·head, List·Memᴰ·tail}
 use Prim.Native.Nat.{ℕ, suc}
 use native.Mathlib.Omega.{arith}
-use Rattle.model.specs.Syntax.{Policy, Request}
+use Rattle.model.specs.Syntax.{Policy, Request, Read}
 use Rattle.model.specs.Meant.{Outcome, tooManyFacts, tooManyAnswers, decided}
-use Rattle.model.specs.Deciding.{decide}
+use Rattle.model.specs.Deciding.{decide, read}
 use Rattle.model.specs.Bytes.{Reading, got, refused}
 use Rattle.model.specs.Policies.{Accepted, policyOf, readPolicy}
-use Rattle.model.specs.Nodes.{readRequest}
-use Rattle.model.specs.Decision.{Verdict, refusal, Report, capacity, room, word, untouched, reported, decisionOn, decisionBy, decision}
-use Rattle.model.specs.Theorems.{ReadAs, AskedAs, Inputs, IsDecision}
+use Rattle.model.specs.Decision.{Slices, Lent, Taken, accepted, refusedOn, requestUnder, sided, readSlices}
+use Rattle.model.specs.Decision.{Verdict, refusal, Report, capacity, room, word, untouched, reported, decisionOf, decision}
+use Rattle.model.specs.Theorems.{ReadAs, Inputs, IsDecision}
 use Rattle.model.proofs.ListFacts.{member-of}
+use Rattle.model.proofs.DecisionFacts.{afterPolicy, on-policy}
 use Rattle.demands.specs.Demands.{Answered}
 use Rattle.demands.proofs.Numbers.{RefusesBy, ofPolicy, ofRequest, policy-numbers, request-numbers}
 
@@ -36,117 +37,113 @@ pub no-refusal : (v : Verdict) (n s p : ℕ) → IsDecision v → v ≡ refusal 
 no-refusal v n s p d e = subst IsDecision e d
 
 -- what is reported of an outcome has side 0
-reported-side : (o : Outcome) (facts answers : List ℕ) (n s p : ℕ) → reported o facts answers .verdict ≡ refusal n (suc s) p → ⊥
-reported-side tooManyFacts facts answers n s p e = let z = side-of 8 0 0 n (suc s) p e in omega arith
-reported-side (tooManyAnswers F) facts answers n s p e = let z = side-of 9 0 0 n (suc s) p e in omega arith
-reported-side (decided F A) facts answers n s p e = no-refusal (word A) n (suc s) p (word-decides A) e
+reported-side : (o : Outcome) (l : Lent) (n s p : ℕ) → reported o l .verdict ≡ refusal n (suc s) p → ⊥
+reported-side tooManyFacts l n s p e = let z = side-of 8 0 0 n (suc s) p e in omega arith
+reported-side (tooManyAnswers F) l n s p e = let z = side-of 9 0 0 n (suc s) p e in omega arith
+reported-side (decided F A) l n s p e = no-refusal (word A) n (suc s) p (word-decides A) e
 
--- ---- by the two readings
+-- ---- by what was read of the slices
+
+of-side : (t : Taken) (l : Lent) (n s p : ℕ) → decisionOf t l .verdict ≡ refusal n (suc s) p → t ≡ refusedOn n (suc s) p
+unfolding decisionOf
+of-side (accepted R) l n s p e = absurd (reported-side (decide R (capacity (l .factBuffer)) (room (l .answerBuffer))) l n s p e)
+of-side (refusedOn m t k) l n s p e = λ i. refusedOn (number-of m t k n (suc s) p e i) (side-of m t k n (suc s) p e i) (place-of m t k n (suc s) p e i)
+
+of-kept : (t : Taken) (l : Lent) (n s p : ℕ) → t ≡ refusedOn n s p → decisionOf t l ≡ untouched n s p l
+unfolding decisionOf
+of-kept t l n s p e = ap (λ (t : Taken). decisionOf t l) e
+
+of-accepted : (t : Taken) (l : Lent) → IsDecision (decisionOf t l .verdict) → (R : Read) × (t ≡ accepted R)
+unfolding decisionOf
+of-accepted (accepted R) l d = (R, refl)
+of-accepted (refusedOn n s p) l d = absurd d
+
+-- ---- slice by slice
 
 refused-same : {A : Type 0} (m n p k : ℕ) → m ≡ n → p ≡ k → _≡_ {A = Reading A} (refused m p) (refused n k)
 refused-same m n p k e f = λ i. refused (e i) (f i)
 
-module _ (P : Policy) (facts answers : List ℕ) where
-  on-kept : (r : Reading Request) (n p : ℕ) → r ≡ refused n p → decisionOn P r facts answers ≡ untouched n 2 p facts answers
-  unfolding decisionOn
-  on-kept r n p e = ap (λ (r : Reading Request). decisionOn P r facts answers) e
+taken-same : (m s p n t k : ℕ) → refusedOn m s p ≡ refusedOn n t k → (m ≡ n) × (s ≡ t) × (p ≡ k)
+taken-same m s p n t k e = (cc, cc, cc)
 
-  on-side : (r : Reading Request) (n p : ℕ) → decisionOn P r facts answers .verdict ≡ refusal n 2 p → r ≡ refused n p
-  unfolding decisionOn
-  on-side (got q x) n p e = absurd (reported-side (decide P q (capacity facts) (room answers)) facts answers n 1 p e)
-  on-side (refused m k) n p e = refused-same m n k p (number-of m 2 k n 2 p e) (place-of m 2 k n 2 p e)
+not-refused : (R : Read) (n s p : ℕ) → accepted R ≡ refusedOn n s p → ⊥
+not-refused R n s p e = let z : _≡_ {A = ℕ} 0 1 = cc in omega arith
 
-  on-other : (r : Reading Request) (n p : ℕ) → decisionOn P r facts answers .verdict ≡ refusal n 1 p → ⊥
-  unfolding decisionOn
-  on-other (got q x) n p e = reported-side (decide P q (capacity facts) (room answers)) facts answers n 0 p e
-  on-other (refused m k) n p e = let z = side-of m 2 k n 1 p e in omega arith
+module _ {A : Type 0} (side : ℕ) (next : A → Taken) where
+  -- a refusal of this side is this slice's, where no later one has it
+  sided-refused : (r : Reading A) (n p : ℕ) → ((a : A) → next a ≡ refusedOn n side p → ⊥) → sided side r next ≡ refusedOn n side p → r ≡ refused n p
+  unfolding sided
+  sided-refused (got a x) n p f e = absurd (f a e)
+  sided-refused (refused m k) n p f e = let w = taken-same m side k n side p e in refused-same m n k p (w .0) (w .2)
 
-  on-answered : (r : Reading Request) → RefusesBy ofRequest r → Answered (decisionOn P r facts answers .verdict)
-  unfolding decisionOn
-  on-answered (got q x) w = go (decide P q (capacity facts) (room answers))
-    where
-      said : (A : List (List ℕ)) → Answered (word A)
-      said [] = tt
-      said (θ ∷ A) = tt
+  sided-other : (r : Reading A) (n t p : ℕ) → (side ≡ t → ⊥) → ((a : A) → next a ≡ refusedOn n t p → ⊥) → sided side r next ≡ refusedOn n t p → ⊥
+  unfolding sided
+  sided-other (got a x) n t p d f e = f a e
+  sided-other (refused m k) n t p d f e = d (taken-same m side k n t p e .1)
 
-      go : (o : Outcome) → Answered (reported o facts answers .verdict)
-      go tooManyFacts = (List·Memᴰ·head refl, refl)
-      go (tooManyAnswers F) = (List·Memᴰ·tail (List·Memᴰ·head refl), refl)
-      go (decided F A) = said A
-  on-answered (refused n p) w = member-of n ofRequest w
+  sided-answered : (r : Reading A) (l : Lent) (numbers : List ℕ) → RefusesBy numbers r
+      → ((n p : ℕ) → List·Memᴰ n numbers → Answered (refusal n side p)) → ((a : A) → Answered (decisionOf (next a) l .verdict))
+      → Answered (decisionOf (sided side r next) l .verdict)
+  unfolding sided decisionOf
+  sided-answered (got a x) l numbers w f g = g a
+  sided-answered (refused n p) l numbers w f g = f n p (member-of n numbers w)
 
-  on-asked : (r : Reading Request) → IsDecision (decisionOn P r facts answers .verdict) → (q : Request) × ((e : ℕ) × (r ≡ got q e))
-  unfolding decisionOn
-  on-asked (got q x) d = (q, (x, refl))
-  on-asked (refused n p) d = absurd d
+accepted-answered : (R : Read) (l : Lent) → Answered (decisionOf (accepted R) l .verdict)
+unfolding decisionOf
+accepted-answered R l = go (decide R (capacity (l .factBuffer)) (room (l .answerBuffer)))
+  where
+    said : (A : List (List ℕ)) → Answered (word A)
+    said [] = tt
+    said (θ ∷ A) = tt
 
-module _ (request facts answers : List ℕ) where
-  by-kept : (r : Reading Accepted) (n p : ℕ) → r ≡ refused n p → decisionBy r request facts answers ≡ untouched n 1 p facts answers
-  unfolding decisionBy
-  by-kept r n p e = ap (λ (r : Reading Accepted). decisionBy r request facts answers) e
-
-  by-side : (r : Reading Accepted) (n p : ℕ) → decisionBy r request facts answers .verdict ≡ refusal n 1 p → r ≡ refused n p
-  unfolding decisionBy
-  by-side (got A x) n p e = absurd (on-other (policyOf A) facts answers (readRequest (policyOf A .constants) (policyOf A .verbs) request) n p e)
-  by-side (refused m k) n p e = refused-same m n k p (number-of m 1 k n 1 p e) (place-of m 1 k n 1 p e)
-
-  by-answered : (r : Reading Accepted) → RefusesBy ofPolicy r → Answered (decisionBy r request facts answers .verdict)
-  unfolding decisionBy
-  by-answered (got A x) w =
-      let P = policyOf A in
-      on-answered P facts answers (readRequest (P .constants) (P .verbs) request) (request-numbers (P .constants) (P .verbs) request)
-  by-answered (refused n p) w = member-of n ofPolicy w
-
-  by-read : (r : Reading Accepted) → IsDecision (decisionBy r request facts answers .verdict)
-      → (A : Accepted) × (x : ℕ) × (r ≡ got A x) × ((q : Request) × AskedAs (policyOf A) request q)
-  unfolding decisionBy
-  by-read (got A x) d =
-      (A, x, refl, on-asked (policyOf A) facts answers (readRequest (policyOf A .constants) (policyOf A .verbs) request) d)
-  by-read (refused n p) d = absurd d
-
-  by-policy : (r : Reading Accepted) (P : Policy) → (A : Accepted) × (e : ℕ) × (r ≡ got A e) × (policyOf A ≡ P)
-      → decisionBy r request facts answers ≡ decisionOn P (readRequest (P .constants) (P .verbs) request) facts answers
-  unfolding decisionBy
-  by-policy r P h =
-      ap (λ (r : Reading Accepted). decisionBy r request facts answers) (h .2)
-      ∙ ap (λ (P : Policy). decisionOn P (readRequest (P .constants) (P .verbs) request) facts answers) (h .3)
+    go : (o : Outcome) → Answered (reported o l .verdict)
+    go tooManyFacts = (List·Memᴰ·head refl, refl)
+    go (tooManyAnswers F) = (List·Memᴰ·tail (List·Memᴰ·head refl), refl)
+    go (decided F A) = said A
 
 -- ---- the decision
 
-module _ (policy request facts answers : List ℕ) where
+module _ (l : Lent) where
+  abbrev s : Slices
+  s = l .slices
+
   abbrev made : Report
-  made = decision policy request facts answers
+  made = decision l
 
   pub made-answered : Answered (made .verdict)
+  unfolding decision readSlices
+  made-answered =
+      sided-answered 1 (λ (A : Accepted). afterPolicy s (policyOf A)) (readPolicy (s .policy)) l ofPolicy (policy-numbers (s .policy)) (λ n p m. m)
+      (λ A. let P = policyOf A in sided-answered 2 (λ (q : Request). accepted (read P q)) (requestUnder P s) l ofRequest
+      (request-numbers (P .constants) (P .verbs) (s .request)) (λ n p m. m) (λ q. accepted-answered (read P q) l))
+
+  pub policy-kept : (n p : ℕ) → readPolicy (s .policy) ≡ refused n p → made ≡ untouched n 1 p l
+  unfolding decision readSlices sided
+  policy-kept n p e = of-kept (readSlices s) l n 1 p (ap (λ (r : Reading Accepted). sided 1 r (λ (A : Accepted). afterPolicy s (policyOf A))) e)
+
+  pub policy-side : (n p : ℕ) → (made .verdict ≡ refusal n 1 p) ↔ (readPolicy (s .policy) ≡ refused n p)
+  unfolding decision readSlices
+  policy-side n p = (
+    λ e. sided-refused 1 (λ (A : Accepted). afterPolicy s (policyOf A)) (readPolicy (s .policy)) n p
+        (λ A. let P = policyOf A in sided-other 2 (λ (q : Request). accepted (read P q)) (requestUnder P s) n 1 p (λ z. omega arith)
+        (λ q. not-refused (read P q) n 1 p)) (of-side (readSlices s) l n 0 p e),
+    λ e. ap (λ (ρ : Report). ρ .verdict) (policy-kept n p e),
+  )
+
+  pub request-kept : (P : Policy) → ReadAs (s .policy) P → (n p : ℕ) → requestUnder P s ≡ refused n p → made ≡ untouched n 2 p l
+  unfolding decision sided
+  request-kept P h n p e =
+      of-kept (readSlices s) l n 2 p (on-policy s P h ∙ ap (λ (r : Reading Request). sided 2 r (λ (q : Request). accepted (read P q))) e)
+
+  pub request-side : (P : Policy) → ReadAs (s .policy) P → (n p : ℕ) → (made .verdict ≡ refusal n 2 p) ↔ (requestUnder P s ≡ refused n p)
   unfolding decision
-  made-answered = by-answered request facts answers (readPolicy policy) (policy-numbers policy)
-
-  pub policy-kept : (n p : ℕ) → readPolicy policy ≡ refused n p → made ≡ untouched n 1 p facts answers
-  unfolding decision
-  policy-kept n p e = by-kept request facts answers (readPolicy policy) n p e
-
-  pub policy-side : (n p : ℕ) → (made .verdict ≡ refusal n 1 p) ↔ (readPolicy policy ≡ refused n p)
-  unfolding decision
-  policy-side n p = (by-side request facts answers (readPolicy policy) n p, λ e. ap (λ (ρ : Report). ρ .verdict) (policy-kept n p e))
-
-  on-policy : (P : Policy) → ReadAs policy P → made ≡ decisionOn P (readRequest (P .constants) (P .verbs) request) facts answers
-  unfolding decision
-  on-policy P h = by-policy request facts answers (readPolicy policy) P h
-
-  pub request-kept : (P : Policy) → ReadAs policy P → (n p : ℕ) → readRequest (P .constants) (P .verbs) request ≡ refused n p
-      → made ≡ untouched n 2 p facts answers
-  request-kept P h n p e = on-policy P h ∙ on-kept P facts answers (readRequest (P .constants) (P .verbs) request) n p e
-
-  pub request-side : (P : Policy) → ReadAs policy P → (n p : ℕ)
-      → (made .verdict ≡ refusal n 2 p) ↔ (readRequest (P .constants) (P .verbs) request ≡ refused n p)
   request-side P h n p = (
-    λ e. on-side P facts answers (readRequest (P .constants) (P .verbs) request) n p (sym (ap (λ (ρ : Report). ρ .verdict) (on-policy P h)) ∙ e),
+    λ e. sided-refused 2 (λ (q : Request). accepted (read P q)) (requestUnder P s) n p (λ q. not-refused (read P q) n 2 p)
+        (sym (on-policy s P h) ∙ of-side (readSlices s) l n 1 p e),
     λ e. ap (λ (ρ : Report). ρ .verdict) (request-kept P h n p e),
   )
 
   -- a decision is on inputs that were accepted
-  pub was-accepted : IsDecision (made .verdict) → (P : Policy) × (q : Request) × Inputs policy request P q
+  pub was-accepted : IsDecision (made .verdict) → (R : Read) × Inputs s R
   unfolding decision
-  was-accepted d =
-      let r = by-read request facts answers (readPolicy policy) d in
-      (policyOf (r .0), r .3 .0, record { readAs = (r .0, r .1, r .2, refl); askedAs = r .3 .1 })
+  was-accepted d = of-accepted (readSlices s) l d

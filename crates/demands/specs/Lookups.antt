@@ -6,14 +6,15 @@ use lib.ListN.{length, getD, take, drop}
 use lib.Dec.{eqb}
 use Rattle.model.specs.Limits.{principal, thing}
 use Rattle.model.specs.Lists.{member}
-use Rattle.model.specs.Syntax.{Constant, Policy, Request, worldOf}
+use Rattle.model.specs.Syntax.{Constant, Read, worldIn}
 use Rattle.model.specs.Kinds.{noConstant}
 use Rattle.model.specs.Values.{alike}
 use Rattle.model.specs.Requests.{issuers}
 use Rattle.model.specs.Reached.{reach}
 use Rattle.model.specs.Bytes.{choose, Reading, got, refused}
 use Rattle.model.specs.Reader.{Item, contents}
-use Rattle.model.specs.Layout.{Accepted, policyOf, readPolicy, readRequest}
+use Rattle.model.specs.Layout.{Accepted}
+use Rattle.model.specs.Decision.{Slices, Taken, accepted, refusedOn, readSlices}
 
 -- ---- where the items stand: the offset of each length byte, in the order of their numbers; none where the policy is not accepted
 
@@ -58,8 +59,8 @@ numberIn (refused n p) kind label = noNumber
 -- ---- whose words count
 
 -- the reach of a request, as a list of constants
-abbrev pub reachOf : Policy → Request → List ℕ
-reachOf P q = reach (worldOf P q) (P .assertions) (issuers (q .node) (worldOf P q))
+abbrev pub reachOf : Read → List ℕ
+reachOf R = reach (worldIn R) (R .policy .assertions) (issuers (R .request .node) (worldIn R))
 
 -- for each of n numbers from i on, 1 if it is in the list, else 0
 unfoldable pub marksFrom : List ℕ → ℕ → ℕ → List ℕ
@@ -76,14 +77,9 @@ pub record Reached : Type 0 where
 abbrev pub reached : ℕ → ℕ → ℕ → List ℕ → Reached
 reached n s p marks = record { refusal = n; side = s; place = p; marks = marks }
 
-unfoldable pub reachedOn : Policy → Reading Request → List ℕ → Reached
-reachedOn P (got q e) marks = reached 0 0 0 (marksFrom (reachOf P q) (length marks) 0)
-reachedOn P (refused n p) marks = reached n 2 p marks
+unfoldable pub reachedBy : Taken → List ℕ → Reached
+reachedBy (accepted R) marks = reached 0 0 0 (marksFrom (reachOf R) (length marks) 0)
+reachedBy (refusedOn n side p) marks = reached n side p marks
 
--- "Policy before request"
-unfoldable pub reachedBy : Reading Accepted → List ℕ → List ℕ → Reached
-reachedBy (got A e) request marks = let P = policyOf A in reachedOn P (readRequest (P .constants) (P .verbs) request) marks
-reachedBy (refused n p) request marks = reached n 1 p marks
-
-unfoldable pub whoseWords : List ℕ → List ℕ → List ℕ → Reached
-whoseWords policy request marks = reachedBy (readPolicy policy) request marks
+unfoldable pub whoseWords : Slices → List ℕ → Reached
+whoseWords s marks = reachedBy (readSlices s) marks

@@ -3,7 +3,7 @@ use libc::STDOUT_FILENO;
 ghost use mathlib.Core.Path.{_≡_};
 ghost use Prim.Native.Nat.{_≤_};
 ghost use lib.ListN.{length, take, replicate};
-ghost use Rattle.model.specs.Decision.{decision};
+ghost use Rattle.model.specs.Decision.{lent, decision};
 ghost use Rattle.outcome.specs.Line.{lineOf};
 ghost use Rattle.io.specs.Counts.{Counts};
 
@@ -67,7 +67,7 @@ fn load(path: &[u8], to: &mut [u8]) -> usize
 fn answer(policy: &[u8], request: &[u8], text: &mut [u8; 96]) -> usize
     ensures { λ r. ⌜ Counts r (now (text .exit)) ⌝ }
     ensures { λ r. ⌜ take r (now (text .exit))
-        ≡ lineOf (decision (now (policy .entry)) (now (request .entry)) (replicate 65536 0) (replicate 1024 0)) ⌝ }
+        ≡ lineOf (decision (lent (now (policy .entry)) (now (request .entry)) (replicate 65536 0) (replicate 1024 0))) ⌝ }
 {
     let mut facts = [0u8; FACTS];
     let mut answers = [0u8; ANSWERS];

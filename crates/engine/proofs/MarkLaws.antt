@@ -9,15 +9,16 @@ use lib.ListN.{length, getD, set, take, drop, length-map}
 use Rattle.model.specs.Lists.{member}
 use Rattle.model.specs.Syntax as syntax
 use Rattle.model.specs.Syntax.{Assertion, Policy, World, worldOf}
-use Rattle.model.specs.Bytes.{byteAt, bytesAt, Reading, got, refused}
+use Rattle.model.specs.Bytes.{byteAt, bytesAt}
 use Rattle.model.specs.Readings.{assertionAt}
 use Rattle.model.specs.Requests.{issuers}
 use Rattle.model.specs.Reached.{reach}
 use Rattle.model.specs.Limits.{maxAssertions}
-use Rattle.model.specs.Policies.{Item, Accepted, policyOf, readPolicy, contents, offsets}
-use Rattle.model.specs.Nodes.{readRequest}
+use Rattle.model.specs.Policies.{Item, Accepted, policyOf, contents, offsets}
+use Rattle.model.specs.Deciding.{read}
+use Rattle.model.specs.Decision.{Slices, slices, Taken, refusedOn, readSlices}
 use Rattle.model.proofs.ReadFacts.{accepted-fine}
-use Rattle.demands.specs.Lookups.{reachOf, marksFrom, reached, reachedOn, reachedBy, whoseWords}
+use Rattle.demands.specs.Lookups.{reachOf, marksFrom, reached, reachedBy, whoseWords}
 use Rattle.policy.specs.Index as policies
 use Rattle.policy.specs.Index.{held, kindTable, indexOf}
 use Rattle.policy.specs.declared.Index.{Index}
@@ -25,6 +26,7 @@ use Rattle.reach.specs.Marks.{Marks, IsReach, Reads, assertionsAt}
 use Rattle.reach.proofs.Counting.{accepted-reads}
 use Rattle.program.proofs.Accepted.{accepted-known, held-front}
 use Rattle.engine.specs.Accepts.{Accepts}
+use Rattle.engine.proofs.Accepting.{inputs}
 use Rattle.model.proofs.ByteFacts.{bytes-length, bytes-at}
 
 -- ---- a slice written from its front
@@ -91,7 +93,7 @@ module _ {policy request : List ℕ} {x : Index} {A : Accepted} {q : syntax.Requ
       (λ b m. accepted-fine policy A (a .end) (a .read) b (subst (List·Memᴰ b) all-read m) .fit)
 
   pub reach-marks : (asked marks : List ℕ) → Marks (issuers (q .node) W) asked
-      → IsReach policy (take (x .assertions) (x .«assertion_at»)) (x .kinds) asked marks → Marks (reachOf P q) marks
+      → IsReach policy (take (x .assertions) (x .«assertion_at»)) (x .kinds) asked marks → Marks (reachOf (read P q)) marks
   unfolding indexOf
   reach-marks asked marks of reaches =
       subst (λ (𝒜 : List Assertion). Marks (reach W 𝒜 (issuers (q .node) W)) marks) all-read
@@ -99,19 +101,12 @@ module _ {policy request : List ℕ} {x : Index} {A : Accepted} {q : syntax.Requ
       (issuers (q .node) W) reads of)
 
   -- what the call tells then
-  pub accepted-words : (marks : List ℕ) → whoseWords policy request marks ≡ reached 0 0 0 (marksFrom (reachOf P q) (length marks) 0)
-  unfolding whoseWords reachedBy reachedOn
-  accepted-words marks =
-      ap (λ (r : Reading Accepted). reachedBy r request marks) (a .read) ∙ ap (λ (r : Reading syntax.Request). reachedOn P r marks) (a .asked)
+  pub accepted-words : (marks : List ℕ) → whoseWords (slices policy request) marks ≡ reached 0 0 0 (marksFrom (reachOf (read P q)) (length marks) 0)
+  unfolding whoseWords reachedBy
+  accepted-words marks = ap (λ (t : Taken). reachedBy t marks) (inputs a)
 
 -- ---- refusals
 
-pub policy-words : (policy request marks : List ℕ) (n p : ℕ) → readPolicy policy ≡ refused n p → whoseWords policy request marks ≡ reached n 1 p marks
+pub refused-words : (s : Slices) (marks : List ℕ) (n side p : ℕ) → readSlices s ≡ refusedOn n side p → whoseWords s marks ≡ reached n side p marks
 unfolding whoseWords reachedBy
-policy-words policy request marks n p e = ap (λ (r : Reading Accepted). reachedBy r request marks) e
-
-pub request-words : (policy request marks : List ℕ) (A : Accepted) (e n p : ℕ) → readPolicy policy ≡ got A e
-    → readRequest (policyOf A .constants) (policyOf A .verbs) request ≡ refused n p → whoseWords policy request marks ≡ reached n 2 p marks
-unfolding whoseWords reachedBy reachedOn
-request-words policy request marks A e n p r h =
-    ap (λ (r : Reading Accepted). reachedBy r request marks) r ∙ ap (λ (r : Reading syntax.Request). reachedOn (policyOf A) r marks) h
+refused-words s marks n side p e = ap (λ (t : Taken). reachedBy t marks) e

@@ -11,7 +11,9 @@ use Rattle.model.specs.Syntax.{Constant, Verb}
 use Rattle.model.specs.Bytes.{Reading, got, refused}
 use Rattle.model.specs.Policies.{Accepted, policyOf, readPolicy}
 use Rattle.model.specs.Nodes.{readRequest}
-use Rattle.model.specs.Decision.{Report, report, refusal, untouched, decisionOn, decisionBy, decision}
+use Rattle.model.specs.Decision.{Slices, Lent, slices, lent, Taken, accepted, refusedOn, sided, readSlices, untouched, decisionOf, decision}
+use Rattle.model.specs.Deciding.{read}
+use Rattle.model.proofs.DecisionFacts.{afterPolicy, on-policy}
 use Rattle.demands.specs.Demands.{Call}
 use Rattle.demands.proofs.Numbers.{RefusesBy, ofRequest, request-numbers}
 use Rattle.constraints.specs.Standing.{longest}
@@ -34,11 +36,16 @@ unfolding policies.handedOut policies.refusal indexOf
 policy-refused (got A e) n p h = absurd (let z : _≡_ {A = ℕ} 0 1 = cc in omega arith)
 policy-refused (refused m k) n p h = let a : m ≡ n = cc in let b : k ≡ p = cc in λ i. refused (a i) (b i)
 
-pub policy-call : (policy request facts answers : List ℕ) (x : Index) (n p : ℕ) → x ≡ policies.handedOut (readPolicy policy) → x .answer ≡ answered.Refused n p
-    → Call policy request facts answers (report (refusal n 1 p) 0 0 0 facts answers)
-unfolding decision decisionBy
-policy-call policy request facts answers x n p i h =
-    sym (ap (λ (r : Reading Accepted). decisionBy r request facts answers) (policy-refused (readPolicy policy) n p (ap (λ (x : Index). x .answer) (sym i) ∙ h)))
+pub policy-taken : (s : Slices) (n p : ℕ) → readPolicy (s .policy) ≡ refused n p → readSlices s ≡ refusedOn n 1 p
+unfolding readSlices sided
+policy-taken s n p e = ap (λ (r : Reading Accepted). sided 1 r (λ (A : Accepted). afterPolicy s (policyOf A))) e
+
+pub policy-call : (l : Lent) (x : Index) (n p : ℕ) → x ≡ policies.handedOut (readPolicy (l .slices .policy)) → x .answer ≡ answered.Refused n p
+    → Call l (untouched n 1 p l)
+unfolding decision decisionOf
+policy-call l x n p i h =
+    let refuses = policy-refused (readPolicy (l .slices .policy)) n p (ap (λ (x : Index). x .answer) (sym i) ∙ h) in
+    sym (ap (λ (t : Taken). decisionOf t l) (policy-taken (l .slices) n p refuses))
 
 -- ---- the request
 
@@ -84,10 +91,14 @@ module _ (policy request : List ℕ) (x : Index) (i : x ≡ policies.handedOut (
       refused-reading (policyOf A .verbs) reading (λ e. z (ap (λ (r : Request). r .refusal) handed ∙ e)) (r .refusal) (r .place)
       (ap (λ (r : Request). r .refusal) handed) (ap (λ (r : Request). r .place) handed)
 
-  pub request-call : (r .refusal ≡ 0 → ⊥) → (facts answers : List ℕ) → Call policy request facts answers
-      (report (refusal (r .refusal) 2 (r .place)) 0 0 0 facts answers)
-  unfolding decision decisionBy decisionOn
-  request-call z facts answers =
+  pub request-taken : (r .refusal ≡ 0 → ⊥) → readSlices (slices policy request) ≡ refusedOn (r .refusal) 2 (r .place)
+  unfolding sided
+  request-taken z =
       let w = policy-got in
-      sym (ap (λ (p : Reading Accepted). decisionBy p request facts answers) (w .2)
-      ∙ ap (λ (q : Reading syntax.Request). decisionOn (policyOf (w .0)) q facts answers) (reading-refused z))
+      on-policy (slices policy request) (policyOf (w .0)) (w .0, w .1, w .2, refl)
+      ∙ ap (λ (y : Reading syntax.Request). sided 2 y (λ (q : syntax.Request). accepted (read (policyOf (w .0)) q))) (reading-refused z)
+
+  pub request-call : (r .refusal ≡ 0 → ⊥) → (facts answers : List ℕ)
+      → (let l = lent policy request facts answers in Call l (untouched (r .refusal) 2 (r .place) l))
+  unfolding decision decisionOf
+  request-call z facts answers = sym (ap (λ (t : Taken). decisionOf t (lent policy request facts answers)) (request-taken z))

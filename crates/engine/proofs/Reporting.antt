@@ -3,14 +3,11 @@ use mathlib.Core.Path.{_≡_, refl, ap, _∙_}
 use mathlib.Core.List.{List, []}
 use Prim.Native.Nat.{ℕ, _≤_, _<_, zero-le}
 use native.Mathlib.Omega.{arith}
-use Rattle.model.specs.Syntax.{Assertion, World, worldOf, Policy, Request, Node}
+use Rattle.model.specs.Syntax.{Assertion, World, worldIn, Node}
 use Rattle.model.specs.Records.{keyOf}
 use Rattle.model.specs.Meant as meant
-use Rattle.model.specs.Bytes.{Reading, got, refused}
-use Rattle.model.specs.Policies.{Accepted, policyOf, readPolicy}
-use Rattle.model.specs.Nodes.{readRequest}
-use Rattle.model.specs.Deciding.{countingIn}
-use Rattle.model.specs.Decision.{Report, capacity, room, reported, decisionOn, decisionBy, decision}
+use Rattle.model.specs.Deciding.{countedIn}
+use Rattle.model.specs.Decision.{Lent, Taken, accepted, refusedOn, readSlices, Report, capacity, room, reported, decisionOf, decision}
 use Rattle.model.proofs.OutcomeFacts.{sorted-length, Result, over, many, fine, result, found}
 use Rattle.model.proofs.DecisionFacts.{rounds-facts}
 use Rattle.outcome.specs.Reported.{reportOf}
@@ -21,27 +18,24 @@ use Rattle.engine.specs.declared.Report as c
 
 -- ---- at most 65,535 facts are reported, whatever the bytes
 
-most-result : (W : World) (𝒜 : List Assertion) (n : Node) (k r : ℕ) (facts answers : List ℕ) → k ≤ 65535 → {o : meant.Outcome} → Result W 𝒜 n k r o
-    → reported o facts answers .facts ≤ 65535
-most-result W 𝒜 n k r facts answers h (over x) = zero-le
-most-result W 𝒜 n k r facts answers h (many x y) = omega (arith, sorted-length keyOf (found W 𝒜 n k r), x)
-most-result W 𝒜 n k r facts answers h (fine x y) = omega (arith, sorted-length keyOf (found W 𝒜 n k r), x)
+most-result : (W : World) (𝒜 : List Assertion) (n : Node) (k r : ℕ) (l : Lent) → k ≤ 65535 → {o : meant.Outcome} → Result W 𝒜 n k r o
+    → reported o l .facts ≤ 65535
+most-result W 𝒜 n k r l h (over x) = zero-le
+most-result W 𝒜 n k r l h (many x y) = omega (arith, sorted-length keyOf (found W 𝒜 n k r), x)
+most-result W 𝒜 n k r l h (fine x y) = omega (arith, sorted-length keyOf (found W 𝒜 n k r), x)
 
-most-on : (P : Policy) (r : Reading Request) (facts answers : List ℕ) → decisionOn P r facts answers .facts ≤ 65535
-unfolding decisionOn
-most-on P (got q e) facts answers =
-    most-result (worldOf P q) (countingIn P q) (q .node) (capacity facts) (room answers) facts answers (omega arith)
-    (result (worldOf P q) (countingIn P q) (q .node) (capacity facts) (room answers))
-most-on P (refused n p) facts answers = zero-le
+most-of : (t : Taken) (l : Lent) → decisionOf t l .facts ≤ 65535
+unfolding decisionOf
+most-of (accepted R) l =
+    let n = R .request .node in
+    let c = capacity (l .factBuffer) in
+    let r = room (l .answerBuffer) in
+    most-result (worldIn R) (countedIn R) n c r l (omega arith) (result (worldIn R) (countedIn R) n c r)
+most-of (refusedOn n side p) l = zero-le
 
-most-by : (r : Reading Accepted) (request facts answers : List ℕ) → decisionBy r request facts answers .facts ≤ 65535
-unfolding decisionBy
-most-by (got A e) request facts answers = most-on (policyOf A) (readRequest (policyOf A .constants) (policyOf A .verbs) request) facts answers
-most-by (refused n p) request facts answers = zero-le
-
-facts-most : (policy request facts answers : List ℕ) → decision policy request facts answers .facts ≤ 65535
+facts-most : (l : Lent) → decision l .facts ≤ 65535
 unfolding decision
-facts-most policy request facts answers = most-by (readPolicy policy) request facts answers
+facts-most l = most-of (readSlices (l .slices)) l
 
 -- ---- the numbers do not depend on the buffers
 
@@ -87,25 +81,24 @@ same-answerBuffer (TooManyAnswers f r) facts answers = refl
 
 -- ---- for a call
 
-module _ (policy request facts answers : List ℕ) (o : Outcome) (facts′ answers′ : List ℕ)
-    (call : reportOf o facts′ answers′ ≡ decision policy request facts answers) where
+module _ (l : Lent) (o : Outcome) (facts′ answers′ : List ℕ) (call : reportOf o facts′ answers′ ≡ decision l) where
   pub facts-fit : reportOf o [] [] .facts < 4294967296
-  facts-fit = omega (arith, same-facts o facts′ answers′, ap (λ (ρ : Report). ρ .facts) call, facts-most policy request facts answers)
+  facts-fit = omega (arith, same-facts o facts′ answers′, ap (λ (ρ : Report). ρ .facts) call, facts-most l)
 
   pub rounds-fit : reportOf o [] [] .rounds < 4294967296
   rounds-fit = omega (
     arith,
     same-rounds o facts′ answers′,
     ap (λ (ρ : Report). ρ .rounds) call,
-    rounds-facts policy request facts answers,
-    facts-most policy request facts answers,
+    rounds-facts l,
+    facts-most l,
   )
 
-  pub numbers-are : {r : c.Report} → r ≡ numbersOf (reportOf o [] []) → r ≡ numbersOf (decision policy request facts answers)
+  pub numbers-are : {r : c.Report} → r ≡ numbersOf (reportOf o [] []) → r ≡ numbersOf (decision l)
   numbers-are e = e ∙ same-numbers o facts′ answers′ ∙ ap numbersOf call
 
-  pub facts-are : facts′ ≡ decision policy request facts answers .factBuffer
+  pub facts-are : facts′ ≡ decision l .factBuffer
   facts-are = same-factBuffer o facts′ answers′ ∙ ap (λ (ρ : Report). ρ .factBuffer) call
 
-  pub answers-are : answers′ ≡ decision policy request facts answers .answerBuffer
+  pub answers-are : answers′ ≡ decision l .answerBuffer
   answers-are = same-answerBuffer o facts′ answers′ ∙ ap (λ (ρ : Report). ρ .answerBuffer) call

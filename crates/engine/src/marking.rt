@@ -9,6 +9,8 @@ ghost use lib.ListN.{length};
 ghost use Rattle.model.specs.Syntax as syntax;
 ghost use Rattle.model.specs.Bytes.{bytesAt};
 ghost use Rattle.model.specs.Policies.{Accepted, policyOf, readPolicy};
+ghost use Rattle.model.specs.Deciding.{read};
+ghost use Rattle.model.specs.Decision.{slices};
 ghost use Rattle.demands.specs.Lookups.{marksFrom, reachOf, whoseWords};
 ghost use Rattle.policy.specs.Index.{handedOut};
 ghost use Rattle.policy.specs.declared.Answer.the-variants as accepting;
@@ -31,7 +33,7 @@ fn mark(reach: &[u8], marks: &mut [u8])
 fn mark_reach(policy: &[u8], x: Index, request: &[u8], marks: &mut [u8])
     requires { ⌜ ((A : Accepted) × (q : syntax.Request) × Accepts (now policy) (now request) x A q) × (length (now request) ≤ longest) ⌝ }
     ensures { λ _. ⌜ ((A : Accepted) (q : syntax.Request) → Accepts (now (policy .entry)) (now (request .entry)) x A q → now (marks .exit) ≡ marksFrom
-        (reachOf (policyOf A) q) (length (now (marks .entry))) 0) ⌝ }
+        (reachOf (read (policyOf A) q)) (length (now (marks .entry))) 0) ⌝ }
 {
     let reach = steps::reached(policy, x, steps::asked(x, request));
     mark(&reach, marks);
@@ -40,8 +42,8 @@ fn mark_reach(policy: &[u8], x: Index, request: &[u8], marks: &mut [u8])
 // The policy is accepted.
 pub fn accepted(policy: &[u8], x: Index, request: &[u8], marks: &mut [u8]) -> Report
     requires { ⌜ (x ≡ handedOut (readPolicy (now policy))) × (x .answer ≡ accepting.Accepted) ⌝ }
-    ensures numbers { λ r. ⌜ r ≡ refusalOf (whoseWords (now (policy .entry)) (now (request .entry)) (now (marks .entry))) ⌝ }
-    ensures marks { λ r. ⌜ now (marks .exit) ≡ whoseWords (now (policy .entry)) (now (request .entry)) (now (marks .entry)) .marks ⌝ }
+    ensures numbers { λ r. ⌜ r ≡ refusalOf (whoseWords (slices (now (policy .entry)) (now (request .entry))) (now (marks .entry))) ⌝ }
+    ensures marks { λ r. ⌜ now (marks .exit) ≡ whoseWords (slices (now (policy .entry)) (now (request .entry))) (now (marks .entry)) .marks ⌝ }
 {
     let kinds = x.kinds;
     let sg = x.signatures;

@@ -24,8 +24,8 @@ use Rattle.model.proofs.PolicyReader.{policy-is}
 use Rattle.wire.proofs.Reading.{choose-true, choose-false}
 use Rattle.policy.specs.declared.Index.{Index}
 use Rattle.policy.specs.Index.{held, kindTable, indexOf, refusal, handedOut}
-use Rattle.policy.proofs.FormFacts.{constant-two}
-use Rattle.policy.proofs.ItemFacts.{constant-right}
+use Rattle.names.proofs.FormFacts.{constant-two}
+use Rattle.names.proofs.ItemFacts.{constant-right}
 use Rattle.policy.proofs.TableFacts.{held-at, kind-is, held-front, held-long}
 use Rattle.demands.specs.Lookups.{constantOffsets, verbOffsets, noNumber, firstOf, isNamed, numberIn}
 use Rattle.lookup.specs.Named.{Near, Standing, namedAt}

@@ -12,7 +12,8 @@ use Rattle.model.specs.Reader.{sized, times, items, byte, u16, u32, byte
 use Rattle.model.specs.Calendar.{daysOfYears, daysOfMonths, dateOf, yearAfter}
 use Rattle.model.specs.Layout.{Accepted, policyOf, label, constant, verb, expr, constraint, levels, fact, assertion, constantItem, verbItem}
 use Rattle.model.specs.Layout.{assertionItem, asking, parts, node, slice, readPolicy, readRequest}
-use Rattle.model.specs.Decision.{decisionOn, decisionBy, decision}
+use Rattle.model.specs.Deciding.{read}
+use Rattle.model.specs.Decision.{sided, readSlices, decisionOf, decision}
 use Rattle.model.specs.Theorems.{done, keeps, adds}
 use Rattle.model.proofs.ListFacts.{member-in}
 use Rattle.model.proofs.ReachFacts.{reach-in}
@@ -24,7 +25,7 @@ unfolding
     sized times items byte u16 u32 byteIn rest list
     label constant verb expr constraint levels fact assertion constantItem verbItem assertionItem asking parts node slice readPolicy readRequest
     daysOfYears daysOfMonths dateOf yearAfter
-    decisionOn decisionBy decision
+    sided readSlices decisionOf decision
 rows = (refl, refl, refl)
 
 pub belt : Belt
@@ -68,12 +69,11 @@ unfolding
     u16At u32At choose andThen
     sized times items byte u16 u32 byteIn rest list
     label constant verb expr constraint levels fact assertion constantItem verbItem assertionItem asking parts node slice readPolicy readRequest
-    decisionOn decisionBy decision
+    sided readSlices decisionOf decision
 beltPair = record {
-  shorter = short;
+  shorter = read short asked;
   longer = long;
-  asked = asked;
-  inputs = record { readAs = (accepted (readPolicy P), 114, refl, refl); askedAs = (18, refl) };
+  inputs = refl;
   longerRead = (accepted (readPolicy longerP), 130, refl, refl);
   outside = record {
     version = refl;

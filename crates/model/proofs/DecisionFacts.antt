@@ -9,42 +9,67 @@ use lib.ListN.{length, take, drop, getD}
 use lib.Seq.{take-at, drop-at, drop-drop}
 use Rattle.model.specs.Limits.{answerBytes}
 use Rattle.model.specs.Lists.{each, sorted}
-use Rattle.model.specs.Syntax.{Assertion, Policy, Request, Node, World, worldOf}
+use Rattle.model.specs.Syntax.{Assertion, Policy, Request, Node, World, Read, worldIn}
 use Rattle.model.specs.Rules.{Rule}
 use Rattle.model.specs.Records.{Entry, keyOf, answerOf, answersBytes}
 use Rattle.model.specs.Meant.{Outcome, tooManyFacts, tooManyAnswers, decided}
 use Rattle.model.specs.Rounds.{lastRound}
 use Rattle.model.specs.Steps.{eqSaid, step}
-use Rattle.model.specs.Deciding.{outcome, decide, countingIn}
+use Rattle.model.specs.Deciding.{outcome, decide, read, countedIn}
 use Rattle.model.specs.Bytes.{Reading, got, refused}
 use Rattle.model.specs.Policies.{Accepted, policyOf, readPolicy}
 use Rattle.model.specs.Nodes.{readRequest}
-use Rattle.model.specs.Decision.{Report, capacity, room, reported, decisionOn, decisionBy, decision}
-use Rattle.model.specs.Theorems.{ReadAs, AskedAs, Inputs, answerIn}
+use Rattle.model.specs.Decision.{Slices, Lent, Taken, accepted, refusedOn, requestUnder, sided, readSlices}
+use Rattle.model.specs.Decision.{Report, capacity, room, reported, decisionOf, decision}
+use Rattle.model.specs.Theorems.{ReadAs, AskedAs, Inputs, InputsBySlice, answerIn}
 use Rattle.model.proofs.RoundFacts as S
 use Rattle.model.proofs.StepFacts.{eqSaid-of, eqSaid-refl, step-of, step-in}
 use Rattle.model.proofs.OutcomeFacts.{sorted-length, sorted-round, Result, over, many, fine, result, found}
 
 -- ---- accepted inputs
 
-decided-by : (r : Reading Accepted) (P : Policy) (request facts answers : List ℕ) → (A : Accepted) × (e : ℕ) × (r ≡ got A e) × (policyOf A ≡ P)
-    → decisionBy r request facts answers ≡ decisionOn P (readRequest (P .constants) (P .verbs) request) facts answers
-unfolding decisionBy
-decided-by r P request facts answers h =
-    ap (λ (r : Reading Accepted). decisionBy r request facts answers) (h .2)
-    ∙ ap (λ (P : Policy). decisionOn P (readRequest (P .constants) (P .verbs) request) facts answers) (h .3)
+accepted-same : (R S : Read) → accepted R ≡ accepted S → R ≡ S
+accepted-same R S e = cc
 
-decided-on : (P : Policy) (r : Reading Request) (q : Request) (e : ℕ) (facts answers : List ℕ) → r ≡ got q e
-    → decisionOn P r facts answers ≡ reported (decide P q (capacity facts) (room answers)) facts answers
-unfolding decisionOn
-decided-on P r q e facts answers h = ap (λ (r : Reading Request). decisionOn P r facts answers) h
+not-accepted : (n side p : ℕ) (R : Read) → refusedOn n side p ≡ accepted R → ⊥
+not-accepted n side p R e = let z : _≡_ {A = ℕ} 0 1 = cc in omega arith
 
-pub reports : (policy request facts answers : List ℕ) (P : Policy) (q : Request) → Inputs policy request P q
-    → decision policy request facts answers ≡ reported (decide P q (capacity facts) (room answers)) facts answers
-unfolding decision
-reports policy request facts answers P q h =
-    decided-by (readPolicy policy) P request facts answers (h .readAs)
-    ∙ decided-on P (readRequest (P .constants) (P .verbs) request) q (h .askedAs .0) facts answers (h .askedAs .1)
+sided-accepted : {A : Type 0} (side : ℕ) (r : Reading A) (next : A → Taken) (R : Read) → sided side r next ≡ accepted R
+    → (a : A) × (e : ℕ) × (r ≡ got a e) × (next a ≡ accepted R)
+unfolding sided
+sided-accepted side (got a e) next R h = (a, e, refl, h)
+sided-accepted side (refused n p) next R h = absurd (not-accepted n side p R h)
+
+-- what is read after the policy
+abbrev pub afterPolicy : Slices → Policy → Taken
+afterPolicy s P = sided 2 (requestUnder P s) (λ (q : Request). accepted (read P q))
+
+pub on-policy : (s : Slices) (P : Policy) → ReadAs (s .policy) P → readSlices s ≡ afterPolicy s P
+unfolding readSlices sided
+on-policy s P h = ap (λ (r : Reading Accepted). sided 1 r (λ (A : Accepted). afterPolicy s (policyOf A))) (h .2) ∙ ap (afterPolicy s) (h .3)
+
+pub slice-by-slice : (s : Slices) (R : Read) → Inputs s R → InputsBySlice s R
+unfolding readSlices
+slice-by-slice s R h =
+    let k = sided-accepted 1 (readPolicy (s .policy)) (λ (A : Accepted). afterPolicy s (policyOf A)) R h in
+    let P = policyOf (k .0) in
+    let m = sided-accepted 2 (requestUnder P s) (λ (q : Request). accepted (read P q)) R (k .3) in
+    let same = accepted-same (read P (m .0)) R (m .3) in
+    record {
+      readAs = (k .0, k .1, k .2, ap (λ (S : Read). S .policy) same);
+      askedAs = subst (λ (P : Policy). AskedAs P (s .request) (R .request)) (ap (λ (S : Read). S .policy) same)
+          (m .1, m .2 ∙ ap (λ (S : Read). got (S .request) (m .1)) same);
+    }
+
+pub of-slices : (s : Slices) (R : Read) → InputsBySlice s R → Inputs s R
+unfolding sided
+of-slices s R h =
+    on-policy s (R .policy) (h .readAs) ∙ ap (λ (r : Reading Request). sided 2 r (λ (q : Request). accepted (read (R .policy) q))) (h .askedAs .1)
+
+pub reports : (l : Lent) (R : Read) → Inputs (l .slices) R
+    → decision l ≡ reported (decide R (capacity (l .factBuffer)) (room (l .answerBuffer))) l
+unfolding decision decisionOf
+reports l R h = ap (λ (t : Taken). decisionOf t l) h
 
 -- ---- rounds and facts, whatever the bytes
 
@@ -53,30 +78,24 @@ rounds-found W 𝒜 n c r =
     let h = S.rounds-le eqSaid (step W 𝒜) (Rule W 𝒜) eqSaid-of eqSaid-refl (step-of W 𝒜) (step-in W 𝒜) (suc c) 0 in
     rw (sorted-round (found W 𝒜 n c r), sorted-length keyOf (found W 𝒜 n c r)) (omega arith)
 
-rounds-result : (W : World) (𝒜 : List Assertion) (n : Node) (c r : ℕ) (facts answers : List ℕ) {o : Outcome} → Result W 𝒜 n c r o
-    → reported o facts answers .rounds ≤ reported o facts answers .facts
-rounds-result W 𝒜 n c r facts answers (over h) = zero-le
-rounds-result W 𝒜 n c r facts answers (many h k) = rounds-found W 𝒜 n c r
-rounds-result W 𝒜 n c r facts answers (fine h k) = rounds-found W 𝒜 n c r
+rounds-result : (W : World) (𝒜 : List Assertion) (n : Node) (c r : ℕ) (l : Lent) {o : Outcome} → Result W 𝒜 n c r o
+    → reported o l .rounds ≤ reported o l .facts
+rounds-result W 𝒜 n c r l (over h) = zero-le
+rounds-result W 𝒜 n c r l (many h k) = rounds-found W 𝒜 n c r
+rounds-result W 𝒜 n c r l (fine h k) = rounds-found W 𝒜 n c r
 
-rounds-on : (P : Policy) (r : Reading Request) (facts answers : List ℕ) → decisionOn P r facts answers .rounds ≤ decisionOn P r facts answers .facts
-unfolding decisionOn
-rounds-on P (got q e) facts answers =
-    let W = worldOf P q in
-    let 𝒜 = countingIn P q in
-    let c = capacity facts in
-    let r = room answers in
-    rounds-result W 𝒜 (q .node) c r facts answers (result W 𝒜 (q .node) c r)
-rounds-on P (refused n p) facts answers = zero-le
+rounds-of : (t : Taken) (l : Lent) → decisionOf t l .rounds ≤ decisionOf t l .facts
+unfolding decisionOf
+rounds-of (accepted R) l =
+    let n = R .request .node in
+    let c = capacity (l .factBuffer) in
+    let r = room (l .answerBuffer) in
+    rounds-result (worldIn R) (countedIn R) n c r l (result (worldIn R) (countedIn R) n c r)
+rounds-of (refusedOn n side p) l = zero-le
 
-rounds-by : (r : Reading Accepted) (request facts answers : List ℕ) → decisionBy r request facts answers .rounds ≤ decisionBy r request facts answers .facts
-unfolding decisionBy
-rounds-by (got A e) request facts answers = rounds-on (policyOf A) (readRequest (policyOf A .constants) (policyOf A .verbs) request) facts answers
-rounds-by (refused n p) request facts answers = zero-le
-
-pub rounds-facts : (policy request facts answers : List ℕ) → decision policy request facts answers .rounds ≤ decision policy request facts answers .facts
+pub rounds-facts : (l : Lent) → decision l .rounds ≤ decision l .facts
 unfolding decision
-rounds-facts policy request facts answers = rounds-by (readPolicy policy) request facts answers
+rounds-facts l = rounds-of (readSlices (l .slices)) l
 
 -- ---- where the answers stand
 

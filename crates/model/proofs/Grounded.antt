@@ -18,7 +18,7 @@ use Rattle.model.specs.Rules.{Rule, cond, canSays, actsAs}
 use Rattle.model.specs.Requests.{issuers}
 use Rattle.model.specs.Records.{Arity}
 use Rattle.model.specs.Reached.{reach, issuedIn}
-use Rattle.model.specs.Deciding.{countingIn}
+use Rattle.model.specs.Deciding.{countingIn, read}
 use Rattle.model.specs.Forms.{isKind}
 use Rattle.model.specs.Theorems.{ReadAs, DerivableIn, GroundFact, GroundSaid}
 use Rattle.model.proofs.ListFacts.{and-of, all-of, keep-of, each-in, eqb-in, or-left, member-of, member-in}
@@ -108,5 +108,5 @@ module _ (policy : List ℕ) (P : Policy) (q : Request) (r : ReadAs policy P) wh
       let k = h (said a d (about c f)) (List·Memᴰ·tail (List·Memᴰ·head refl)) in
       (g .0, g .1, about-ground cs vs b c f (g .2 .0) (k .2))
 
-  pub grounded : (x : Said) → DerivableIn P q x → GroundSaid W x
+  pub grounded : (x : Said) → DerivableIn (read P q) x → GroundSaid W x
   grounded x (by r h) = rule-ground r (λ y e. grounded y (h y e))

@@ -8,20 +8,20 @@ use native.Mathlib.Decide.{decLt}
 use lib.ListN.{length, getD, List·getD-eq-default}
 use Rattle.model.specs.Limits.{unbound, answerBytes}
 use Rattle.model.specs.Lists.{all, each}
-use Rattle.model.specs.Syntax.{today, Assertion, Constant, Policy, Request, Node, World, worldOf}
+use Rattle.model.specs.Syntax.{today, Assertion, Constant, Policy, Request, Node, World, Read, worldIn}
 use Rattle.model.specs.Kinds.{noConstant, demandsIn, inPlace, comparable}
 use Rattle.model.specs.Closure.{Derives, First}
 use Rattle.model.specs.Rules.{Rule}
 use Rattle.model.specs.Requests.{issuers, kindsIn, freeKinds, bindingsIn}
 use Rattle.model.specs.Records.{Entry, keyOf, answersBytes, Arity}
-use Rattle.model.specs.Meant.{Outcome, decided, MoreThan, AtMost, Enumerates, Derivable, FirstIn, Satisfies, itself, Meant, fullTable}
-use Rattle.model.specs.Meant.{fullAnswers, allListed}
+use Rattle.model.specs.Meant.{Outcome, tooManyFacts, tooManyAnswers, decided, MoreThan, AtMost, Enumerates, Derivable, FirstIn, Satisfies}
+use Rattle.model.specs.Meant.{itself, Meant, fullTable, fullAnswers, allListed}
 use Rattle.model.specs.Steps.{eqSaid, step}
 use Rattle.model.specs.Reached.{issuedIn, reach, counting}
-use Rattle.model.specs.Deciding.{outcome, decide, countingIn}
-use Rattle.model.specs.Decision.{allow, deny, refusal, Report, capacity, room, atFront, word, reported, decision}
+use Rattle.model.specs.Deciding.{outcome, decide, read, countedIn}
+use Rattle.model.specs.Decision.{Slices, Lent, allow, deny, refusal, Report, capacity, room, atFront, word, reported, decision}
 use Rattle.model.specs.Theorems as Q
-use Rattle.model.specs.Theorems.{Inputs, ReadAs, Longer, IsDecision, ListedIn, answerIn, MeantBy}
+use Rattle.model.specs.Theorems.{Inputs, ReadAs, Longer, withPolicy, IsDecision, ListedIn, answerIn, MeantBy}
 use Rattle.model.proofs.ListFacts.{and-of, keep-of, keep-in, member-of, member-in}
 use Rattle.model.proofs.ClosureFacts.{derives↔within, derives-more}
 use Rattle.model.proofs.RoundFacts as S
@@ -35,7 +35,7 @@ use Rattle.model.proofs.Inside.{inside}
 use Rattle.model.proofs.Growth.{holds-more, rule-grows}
 use Rattle.model.proofs.ReadFacts.{accepted-count, subject-placed, policy-fine}
 use Rattle.model.proofs.KindFacts.{fitting↔, one-kind}
-use Rattle.model.proofs.DecisionFacts.{reports, rounds-facts, answer-at, getD-in, in-getD}
+use Rattle.model.proofs.DecisionFacts.{slice-by-slice, of-slices, reports, rounds-facts, answer-at, getD-in, in-getD}
 use Rattle.model.proofs.ProperRequests.{safely-asked}
 use Rattle.model.proofs.BoundVariables.{instances}
 use Rattle.model.proofs.Grounded.{grounded}
@@ -60,22 +60,25 @@ roundsAtMostFacts = rounds-facts
 
 -- ---- the outcome
 
-module _ (policy request : List ℕ) (P : Policy) (q : Request) (h : Inputs policy request P q) where
-  counting-arity : (a : Assertion) → List·Memᴰ a (countingIn P q) → Arity (P .verbs) (a .head)
-  counting-arity a m = policy-fine policy P (h .readAs) a (keep-of (issuedIn (reach (worldOf P q) (P .assertions) (issuers (q .node) (worldOf P q))))
-      (P .assertions) m .0) .arity
+pub sliceBySlice : Q.SliceBySlice
+sliceBySlice s R = (slice-by-slice s R, of-slices s R)
 
-  meant-by : (c r : ℕ) → MeantBy P q c r (decide P q c r)
-  meant-by c r = meant (worldOf P q) (countingIn P q) (q .node) c r counting-arity
+module _ (s : Slices) (R : Read) (h : Inputs s R) where
+  counting-arity : (a : Assertion) → List·Memᴰ a (countedIn R) → Arity (R .policy .verbs) (a .head)
+  counting-arity a m =
+      let 𝒜 = R .policy .assertions in
+      let W = worldIn R in
+      policy-fine (s .policy) (R .policy) (slice-by-slice s R h .readAs) a (keep-of (issuedIn (reach W 𝒜 (issuers (R .request .node) W))) 𝒜 m .0) .arity
+
+  meant-by : (c r : ℕ) → MeantBy R c r (decide R c r)
+  meant-by c r = meant (worldIn R) (countedIn R) (R .request .node) c r counting-arity
 
 pub meaning : Q.Meaning
-meaning policy request facts answers P q h = (
-  decide P q (capacity facts) (room answers),
-  reports policy request facts answers P q h,
-  meant-by policy request P q h (capacity facts) (room answers),
-  λ o m. meant-unique (worldOf P q) (countingIn P q) (q .node) (capacity facts) (room answers) o _ m
-      (meant-by policy request P q h (capacity facts) (room answers)),
-)
+meaning l R h =
+    let c = capacity (l .factBuffer) in
+    let r = room (l .answerBuffer) in
+    let m = meant-by (l .slices) R h c r in
+    (decide R c r, reports l R h, m, λ o k. meant-unique (worldIn R) (countedIn R) (R .request .node) c r o _ k m)
 
 -- verdicts differ
 word-refusal : (A : List (List ℕ)) (n s p : ℕ) → word A ≡ refusal n s p → ⊥
@@ -85,13 +88,13 @@ word-refusal (θ ∷ A) n s p e = let z : _≡_ {A = ℕ} 0 1 = cc in omega arit
 apart : (n m s p : ℕ) → n < m → refusal n s p ≡ refusal m s p → ⊥
 apart n m s p h e = let z : n ≡ m = cc in omega arith
 
-module _ (W : World) (𝒜 : List Assertion) (n : Node) (c r : ℕ) (facts answers : List ℕ) where
-  eight↔ : {o : Outcome} → Meant W 𝒜 n c r o → (reported o facts answers .verdict ≡ refusal 8 0 0) ↔ MoreThan c (Derivable W 𝒜 n)
+module _ (W : World) (𝒜 : List Assertion) (n : Node) (c r : ℕ) (l : Lent) where
+  eight↔ : {o : Outcome} → Meant W 𝒜 n c r o → (reported o l .verdict ≡ refusal 8 0 0) ↔ MoreThan c (Derivable W 𝒜 n)
   eight↔ (fullTable m) = (λ e. m, λ k. refl)
   eight↔ (fullAnswers a F m) = (λ e. absurd (apart 8 9 0 0 (omega arith) (sym e)), λ k. absurd (clash c (Derivable W 𝒜 n) k a))
   eight↔ (allListed {A = A} a F b G) = (λ e. absurd (word-refusal A 8 0 0 e), λ k. absurd (clash c (Derivable W 𝒜 n) k a))
 
-  nine↔ : {o : Outcome} → Meant W 𝒜 n c r o → (reported o facts answers .verdict ≡ refusal 9 0 0) ↔ (AtMost c (Derivable W 𝒜 n) × MoreThan r (Satisfies W 𝒜 n))
+  nine↔ : {o : Outcome} → Meant W 𝒜 n c r o → (reported o l .verdict ≡ refusal 9 0 0) ↔ (AtMost c (Derivable W 𝒜 n) × MoreThan r (Satisfies W 𝒜 n))
   nine↔ (fullTable m) = (λ e. absurd (apart 8 9 0 0 (omega arith) e), λ k. absurd (clash c (Derivable W 𝒜 n) m (k .0)))
   nine↔ (fullAnswers a F m) = (λ e. (a, m), λ k. refl)
   nine↔ (allListed {A = A} a F b G) = (λ e. absurd (word-refusal A 9 0 0 e), λ k. absurd (clash r (Satisfies W 𝒜 n) (k .1) b))
@@ -104,22 +107,23 @@ module _ (W : World) (𝒜 : List Assertion) (n : Node) (c r : ℕ) (facts answe
   decided-as (allListed {F} {A} k f l g) a b = (F, A, f, g, refl)
 
 pub eight : Q.Eight
-eight policy request facts answers P q h =
-    rw (reports policy request facts answers P q h)
-    (eight↔ (worldOf P q) (countingIn P q) (q .node) (capacity facts) (room answers) facts answers
-    (meant-by policy request P q h (capacity facts) (room answers)))
+eight l R h =
+    let c = capacity (l .factBuffer) in
+    let r = room (l .answerBuffer) in
+    rw (reports l R h) (eight↔ (worldIn R) (countedIn R) (R .request .node) c r l (meant-by (l .slices) R h c r))
 
 pub nine : Q.Nine
-nine policy request facts answers P q h =
-    rw (reports policy request facts answers P q h)
-    (nine↔ (worldOf P q) (countingIn P q) (q .node) (capacity facts) (room answers) facts answers
-    (meant-by policy request P q h (capacity facts) (room answers)))
+nine l R h =
+    let c = capacity (l .factBuffer) in
+    let r = room (l .answerBuffer) in
+    rw (reports l R h) (nine↔ (worldIn R) (countedIn R) (R .request .node) c r l (meant-by (l .slices) R h c r))
 
 pub decides : Q.Decides
-decides policy request facts answers P q h a b =
-    let d = decided-as (worldOf P q) (countingIn P q) (q .node) (capacity facts) (room answers) facts answers
-    (meant-by policy request P q h (capacity facts) (room answers)) a b in
-    (d .0, d .1, d .2, d .3, reports policy request facts answers P q h ∙ ap (λ (o : Outcome). reported o facts answers) (d .4))
+decides l R h a b =
+    let c = capacity (l .factBuffer) in
+    let r = room (l .answerBuffer) in
+    let d = decided-as (worldIn R) (countedIn R) (R .request .node) c r l (meant-by (l .slices) R h c r) a b in
+    (d .0, d .1, d .2, d .3, reports l R h ∙ ap (λ (o : Outcome). reported o l) (d .4))
 
 allow↔ : {X : List ℕ → Type 0} (A : List (List ℕ)) → Enumerates itself X A → ((word A ≡ allow) ↔ ((θ : List ℕ) × X θ))
     × ((word A ≡ deny) ↔ (¬ ((θ : List ℕ) × X θ)))
@@ -133,23 +137,23 @@ allow↔ (θ ∷ A) e = (
 )
 
 pub allows : Q.Allows
-allows policy request facts answers P q h a b =
-    let d = decides policy request facts answers P q h a b in
+allows l R h a b =
+    let d = decides l R h a b in
     rw (d .4) (allow↔ (d .1) (d .3))
 
 pub recordsTell : Q.RecordsTell
-recordsTell policy request P q h e e′ f g r =
-    same-entry W 𝒜 (q .node) 0 0 k e e′ f g (same-key W 𝒜 k (e .1) (e′ .1) (fits W 𝒜 k (e .1) (derived e f)) (fits W 𝒜 k (e′ .1) (derived e′ g))
+recordsTell s R h e e′ f g r =
+    same-entry W 𝒜 (R .request .node) 0 0 k e e′ f g (same-key W 𝒜 k (e .1) (e′ .1) (fits W 𝒜 k (e .1) (derived e f)) (fits W 𝒜 k (e′ .1) (derived e′ g))
     (tail-eq-of-cons-eq (tail-eq-of-cons-eq r)))
   where
     W : World
-    W = worldOf P q
+    W = worldIn R
 
     𝒜 : List Assertion
-    𝒜 = countingIn P q
+    𝒜 = countedIn R
 
     k : (a : Assertion) → List·Memᴰ a 𝒜 → Arity (W .verbs) (a .head)
-    k = counting-arity policy request P q h
+    k = counting-arity s R h
 
     derived : (e : Entry) → First (Rule W 𝒜) (e .0) (e .1) → Derives (Rule W 𝒜) (e .1)
     derived e f = S.first→derives eqSaid (step W 𝒜) (Rule W 𝒜) eqSaid-of eqSaid-refl (step-of W 𝒜) (step-in W 𝒜) (e .0) (e .1) f
@@ -167,77 +171,93 @@ computedReach W 𝒜 asked = (
 
 -- ---- added assertions
 
--- the longer policy's world and request are the shorter's
-longer-inputs : {X : Assertion → Type 0} (policy longer request : List ℕ) (P L : Policy) (q : Request) → Inputs policy request P q → ReadAs longer L
-    → Longer X P L → Inputs longer request L q
-longer-inputs policy longer request P L q h l x = record {
-  readAs = l;
-  askedAs = (h .askedAs .0, rw (x .constants, x .verbs) (h .askedAs .1));
-}
+-- what is read with the longer policy in the shorter's place: the world and the request are the shorter's
+module _ {X : Assertion → Type 0} (R : Read) (L : Policy) (x : Longer X (R .policy) L) where
+  abbrev R′ : Read
+  R′ = read L (R .request)
 
-longer-world : {X : Assertion → Type 0} (P L : Policy) (q : Request) → Longer X P L → worldOf L q ≡ worldOf P q
-longer-world P L q x = λ i. record { constants = x .constants i; verbs = x .verbs i; today = q .today }
+  longer-inputs : (l : Lent) (longer : List ℕ) → Inputs (l .slices) R → ReadAs longer L → Inputs (withPolicy longer l .slices) R′
+  longer-inputs l longer h a =
+      let k = slice-by-slice (l .slices) R h .askedAs in
+      of-slices (withPolicy longer l .slices) R′ (record { readAs = a; askedAs = (k .0, rw (x .constants, x .verbs) (k .1)) })
 
-longer-counts : {X : Assertion → Type 0} (P L : Policy) (q : Request) (x : Longer X P L)
-    → countingIn L q ≡ counting (worldOf P q) (L .assertions) (issuers (q .node) (worldOf P q))
-longer-counts P L q x = ap (λ (W : World). counting W (L .assertions) (issuers (q .node) W)) (longer-world P L q x)
+  longer-world : worldIn R′ ≡ worldIn R
+  longer-world = λ i. record { constants = x .constants i; verbs = x .verbs i; today = R .request .today }
+
+  longer-counts : countedIn R′ ≡ counting (worldIn R) (L .assertions) (issuers (R .request .node) (worldIn R))
+  longer-counts = ap (λ (W : World). counting W (L .assertions) (issuers (R .request .node) W)) longer-world
 
 pub outsiders : Q.Outsiders
-outsiders policy longer request facts answers P L q h l x =
-    reports longer request facts answers L q (longer-inputs policy longer request P L q h l x)
-    ∙ (ap (λ (o : Outcome). reported o facts answers) same ∙ sym (reports policy request facts answers P q h))
+outsiders l longer R L h a x =
+    reports (withPolicy longer l) (read L (R .request)) (longer-inputs R L x l longer h a)
+    ∙ (same-buffers (decide (read L (R .request)) c r) ∙ (ap (λ (o : Outcome). reported o l) same ∙ sym (reports l R h)))
   where
     W : World
-    W = worldOf P q
+    W = worldIn R
 
-    counts : countingIn L q ≡ countingIn P q
-    counts = longer-counts P L q x ∙ counting-same W (issuers (q .node) W) (P .assertions) (L .assertions) (x .assertions)
+    counts : countedIn (read L (R .request)) ≡ countedIn R
+    counts = longer-counts R L x ∙ counting-same W (issuers (R .request .node) W) (R .policy .assertions) (L .assertions) (x .assertions)
 
-    same : decide L q (capacity facts) (room answers) ≡ decide P q (capacity facts) (room answers)
-    same = λ i. outcome (longer-world P L q x i) (counts i) (q .node) (capacity facts) (room answers)
+    c : ℕ
+    c = capacity (l .factBuffer)
+
+    r : ℕ
+    r = room (l .answerBuffer)
+
+    same : decide (read L (R .request)) c r ≡ decide R c r
+    same = λ i. outcome (longer-world R L x i) (counts i) (R .request .node) c r
+
+    same-buffers : (o : Outcome) → reported o (withPolicy longer l) ≡ reported o l
+    same-buffers tooManyFacts = refl
+    same-buffers (tooManyAnswers F) = refl
+    same-buffers (decided F A) = refl
 
 pub insiders : Q.Insiders
-insiders policy request P q h n x r =
-    inside (worldOf P q) (issuers (q .node) (worldOf P q)) (P .assertions)
-    (λ a m. subject-placed (P .constants) (P .verbs) a (policy-fine policy P (h .readAs) a m .fit)) n x r
+insiders s R h n x r =
+    let P = R .policy in
+    inside (worldIn R) (issuers (R .request .node) (worldIn R)) (P .assertions)
+    (λ a m. subject-placed (P .constants) (P .verbs) a (policy-fine (s .policy) P (slice-by-slice s R h .readAs) a m .fit)) n x r
 
 -- the answers of a decision are those that its buffer lists
 binding-length : (W : World) (n : Node) (θ : List ℕ) → List·Memᴰ θ (bindingsIn W n) → length θ ≡ answerBytes
 binding-length W n θ m = bindings-of (W .constants) (freeKinds W n) θ m .0
 
-module _ (W : World) (𝒜 : List Assertion) (n : Node) (c r : ℕ) (facts answers : List ℕ) where
+module _ (W : World) (𝒜 : List Assertion) (n : Node) (c r : ℕ) (l : Lent) where
   -- listed ↔ satisfying, where there is a decision
-  listed↔ : {o : Outcome} → Meant W 𝒜 n c r o → IsDecision (reported o facts answers .verdict) → (θ : List ℕ) → ListedIn (reported o facts answers) θ
+  listed↔ : {o : Outcome} → Meant W 𝒜 n c r o → IsDecision (reported o l .verdict) → (θ : List ℕ) → ListedIn (reported o l) θ
       ↔ Satisfies W 𝒜 n θ
   listed↔ (fullTable m) k θ = absurd k
   listed↔ (fullAnswers a f m) k θ = absurd k
   listed↔ (allListed {F} {A} a f b g) k θ = (
-    λ l. g .only θ (subst (λ (η : List ℕ). List·Memᴰ η A) (sym (at (l .0) (l .1)) ∙ l .2) (getD-in [] A (l .0) (l .1))),
+    λ k. g .only θ (subst (λ (η : List ℕ). List·Memᴰ η A) (sym (at (k .0) (k .1)) ∙ k .2) (getD-in [] A (k .0) (k .1))),
     λ s. let m = in-getD [] (g .every θ s) in (m .0, m .1, at (m .0) (m .1) ∙ m .2),
   )
     where
-      at : (i : ℕ) → i < length A → answerIn (atFront answers (answersBytes A)) i ≡ getD A i []
-      at i l = answer-at A _ (λ η m. binding-length W n η (g .only η m .0)) i l
+      at : (i : ℕ) → i < length A → answerIn (atFront (l .answerBuffer) (answersBytes A)) i ≡ getD A i []
+      at i k = answer-at A _ (λ η m. binding-length W n η (g .only η m .0)) i k
 
 pub growing : Q.Growing
-growing policy longer request facts answers P L q h l x p d d′ θ k =
-    let W = worldOf P q in
-    let asked = issuers (q .node) W in
-    let i = longer-inputs policy longer request P L q h l x in
-    let e = reports policy request facts answers P q h in
-    let e′ = reports longer request facts answers L q i in
-    let now = listed↔ (worldOf L q) (countingIn L q) (q .node) (capacity facts) (room answers) facts answers
-    (meant-by longer request L q i (capacity facts) (room answers)) (subst (λ (r : Report). IsDecision (r .verdict)) e′ d′) θ in
-    let then = listed↔ W (countingIn P q) (q .node) (capacity facts) (room answers) facts answers
-    (meant-by policy request P q h (capacity facts) (room answers)) (subst (λ (r : Report). IsDecision (r .verdict)) e d) θ in
-    let s = then .0 (subst (λ (r : Report). ListedIn r θ) e k) in
-    let s′ : Satisfies W (counting W (L .assertions) asked) (q .node) θ = (
+growing l longer R L h a x p d d′ θ k =
+    let W = worldIn R in
+    let n = R .request .node in
+    let asked = issuers n W in
+    let R′ = read L (R .request) in
+    let i = longer-inputs R L x l longer h a in
+    let c = capacity (l .factBuffer) in
+    let r = room (l .answerBuffer) in
+    let e = reports l R h in
+    let e′ = reports (withPolicy longer l) R′ i in
+    let now = listed↔ (worldIn R′) (countedIn R′) n c r (withPolicy longer l) (meant-by (withPolicy longer l .slices) R′ i c r)
+    (subst (λ (ρ : Report). IsDecision (ρ .verdict)) e′ d′) θ in
+    let then = listed↔ W (countedIn R) n c r l (meant-by (l .slices) R h c r) (subst (λ (ρ : Report). IsDecision (ρ .verdict)) e d) θ in
+    let s = then .0 (subst (λ (ρ : Report). ListedIn ρ θ) e k) in
+    let s′ : Satisfies W (counting W (L .assertions) asked) n θ = (
       s .0,
-      holds-more W (kindsIn W (q .node)) (Derives (Rule W (countingIn P q))) (Derives (Rule W (counting W (L .assertions) asked)))
-          (λ y z. derives-more (rule-grows W asked (x .assertions)) z) (q .node) θ p (s .1),
+      holds-more W (kindsIn W n) (Derives (Rule W (countedIn R))) (Derives (Rule W (counting W (L .assertions) asked)))
+          (λ y z. derives-more (rule-grows W asked (x .assertions)) z) n θ p (s .1),
     ) in
-    subst (λ (r : Report). ListedIn r θ) (sym e′)
-    (now .1 (subst₂ (λ (W : World) (𝒜 : List Assertion). Satisfies W 𝒜 (q .node) θ) (sym (longer-world P L q x)) (sym (longer-counts P L q x)) s′))
+    subst (λ (ρ : Report). ListedIn ρ θ) (sym e′)
+    (now .1 (subst₂ (λ (W : World) (𝒜 : List Assertion). Satisfies W 𝒜 n θ) (sym (longer-world R L x)) (sym (longer-counts R L x)) s′))
 
 -- ---- kinds and bindings
 
@@ -251,10 +271,15 @@ pub instanceBindings : Q.InstanceBindings
 instanceBindings policy P q r a m θ = instances policy P r (q .today) a m θ
 
 pub answerBindings : Q.AnswerBindings
-answerBindings policy request P q i θ = answering policy request P q (i .readAs) (i .askedAs) θ
+answerBindings s R h θ =
+    let i = slice-by-slice s R h in
+    answering (s .policy) (s .request) (R .policy) (R .request) (i .readAs) (i .askedAs) θ
 
 pub wholeNodeFits : Q.WholeNodeFits
-wholeNodeFits policy request P q i = kindsFit (P .constants) (demandsIn (q .node) (P .verbs)) .0 (whole policy request P q (i .readAs) (i .askedAs) .fit)
+wholeNodeFits s R h =
+    let i = slice-by-slice s R h in
+    let P = R .policy in
+    kindsFit (P .constants) (demandsIn (R .request .node) (P .verbs)) .0 (whole (s .policy) (s .request) P (R .request) (i .readAs) (i .askedAs) .fit)
 
 pub belowUnbound : Q.BelowUnbound
 belowUnbound policy P r c n = go (decLt c unbound)
@@ -268,14 +293,18 @@ belowUnbound policy P r c n = go (decLt c unbound)
         (let l : length (P .constants) ≤ c = omega (arith, few) in l))))
 
 pub freeAnswers : Q.FreeAnswers
-freeAnswers policy request P q i θ a v t =
-    let k = answered policy request P q (i .readAs) (i .askedAs) θ (a .0) v t in
-    (k .0, k .1, belowUnbound policy P (i .readAs) (getD θ v unbound) (λ z. free-placed policy request P q (i .readAs) (i .askedAs) v t (sym (k .1) ∙ z)))
+freeAnswers s R h θ a v t =
+    let i = slice-by-slice s R h in
+    let P = R .policy in
+    let q = R .request in
+    let k = answered (s .policy) (s .request) P q (i .readAs) (i .askedAs) θ (a .0) v t in
+    let placed = free-placed (s .policy) (s .request) P q (i .readAs) (i .askedAs) v t in
+    (k .0, k .1, belowUnbound (s .policy) P (i .readAs) (getD θ v unbound) (λ z. placed (sym (k .1) ∙ z)))
 
 -- ---- ground
 
 pub ground : Q.Ground
-ground policy request P q i x d = grounded policy P q (i .readAs) x d
+ground s R h x d = grounded (s .policy) (R .policy) (R .request) (slice-by-slice s R h .readAs) x d
 
 -- ---- safety
 

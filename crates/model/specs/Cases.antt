@@ -5,8 +5,9 @@ use Prim.Native.Nat.{ℕ, suc, _/_, _%_}
 use lib.ListN.{length, replicate, set}
 use Rattle.model.specs.Limits.{version, principal, thing, day, unlimited, unbound}
 use Rattle.model.specs.Lists.{each}
-use Rattle.model.specs.Syntax.{Policy, Request}
-use Rattle.model.specs.Decision.{Verdict, allow, deny, refusal, Report, report, untouched, decision}
+use Rattle.model.specs.Syntax.{Policy, Read}
+use Rattle.model.specs.Decision as given
+use Rattle.model.specs.Decision.{slices, Verdict, allow, deny, refusal, Report, report, decision}
 use Rattle.model.specs.Theorems.{ReadAs, Inputs, Longer, IssuedOutside, Positive, IsDecision}
 
 -- ---- a row: a call, and what it must report
@@ -22,10 +23,10 @@ abbrev pub lent : ℕ → List ℕ
 lent n = replicate n 165
 
 abbrev pub call : List ℕ → List ℕ → ℕ → ℕ → Report
-call policy request facts answers = decision policy request (lent facts) (lent answers)
+call policy request facts answers = decision (given.lent policy request (lent facts) (lent answers))
 
 abbrev pub refuses : ℕ → ℕ → ℕ → ℕ → ℕ → Report
-refuses n side place facts answers = untouched n side place (lent facts) (lent answers)
+refuses n side place facts answers = report (refusal n side place) 0 0 0 (lent facts) (lent answers)
 
 -- ---- bytes from their parts
 
@@ -317,12 +318,11 @@ longerP = policy (i ∷ ii ∷ iii ∷ added ∷ [])
 
 -- P, the longer policy and Q meet the hypotheses of both halves
 pub record BeltPair : Type 0 where
-  pub shorter : Policy
+  pub shorter : Read
   pub longer : Policy
-  pub asked : Request
-  pub inputs : Inputs P Q shorter asked
+  pub inputs : Inputs (slices P Q) shorter
   pub longerRead : ReadAs longerP longer
-  pub outside : Longer (IssuedOutside shorter asked) shorter longer
-  pub positive : Positive (asked .node)
+  pub outside : Longer (IssuedOutside shorter) (shorter .policy) longer
+  pub positive : Positive (shorter .request .node)
   pub shorterDecided : IsDecision (call P Q 160 8 .verdict)
   pub longerDecided : IsDecision (call longerP Q 160 8 .verdict)

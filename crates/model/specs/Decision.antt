@@ -3,12 +3,48 @@ use Prim.Native.Nat.{ℕ, _-_, _/_, min}
 use mathlib.Core.List.{List, [], _∷_, _++_}
 use lib.ListN.{length, replicate}
 use Rattle.model.specs.Limits.{recordBytes, maxRecords, answerBytes}
-use Rattle.model.specs.Syntax.{Policy, Request}
+use Rattle.model.specs.Syntax.{Policy, Request, Read}
 use Rattle.model.specs.Records.{Entry, recordsOf, lastRound, answersBytes}
 use Rattle.model.specs.Meant.{Outcome, tooManyFacts, tooManyAnswers, decided}
 use Rattle.model.specs.Deciding.{decide}
 use Rattle.model.specs.Bytes.{Reading, got, refused}
 use Rattle.model.specs.Layout.{Accepted, policyOf, readPolicy, readRequest}
+
+-- "Bytes of every sort as policy and request": the slices that are read
+pub record Slices : Type 0 where
+  pub policy : List ℕ
+  pub request : List ℕ
+
+-- "with buffers of every length": what a call of the decision is lent
+pub record Lent : Type 0 where
+  pub slices : Slices
+  pub factBuffer : List ℕ
+  pub answerBuffer : List ℕ
+
+-- put together from the lists that a function is lent, for contracts of code
+abbrev pub slices : List ℕ → List ℕ → Slices
+slices policy request = record { policy = policy; request = request }
+
+abbrev pub lent : List ℕ → List ℕ → List ℕ → List ℕ → Lent
+lent policy request facts answers = record { slices = slices policy request; factBuffer = facts; answerBuffer = answers }
+
+-- a request is read by the policy's constants and verbs
+abbrev pub requestUnder : Policy → Slices → Reading Request
+requestUnder P s = readRequest (P .constants) (P .verbs) (s .request)
+
+-- what the slices say, or "a refusal's number, side and place"
+pub data Taken : Type 0 where
+  accepted : Read → Taken
+  refusedOn : ℕ → ℕ → ℕ → Taken
+
+-- a slice is read whole before the next; its refusal has its side
+unfoldable pub sided : {A : Type 0} → ℕ → Reading A → (A → Taken) → Taken
+sided side (got a e) next = next a
+sided side (refused n p) next = refusedOn n side p
+
+-- "side 1 policy or 2 request"; "Policy before request"
+unfoldable pub readSlices : Slices → Taken
+readSlices s = sided 1 (readPolicy (s .policy)) (λ A. let P = policyOf A in sided 2 (requestUnder P s) (λ q. accepted (record { policy = P; request = q })))
 
 -- "the decision word or a refusal's number, side and place"
 pub data Verdict : Type 0 where
@@ -46,27 +82,20 @@ abbrev pub word : List (List ℕ) → Verdict
 word [] = deny
 word (θ ∷ θs) = allow
 
--- "Refusals from the input: Both buffers untouched, counts 0, side 1 policy or 2 request"
-abbrev pub untouched : ℕ → ℕ → ℕ → List ℕ → List ℕ → Report
-untouched number side place facts answers = report (refusal number side place) 0 0 0 facts answers
+-- "Refusals from the input: Both buffers untouched, counts 0"
+abbrev pub untouched : ℕ → ℕ → ℕ → Lent → Report
+untouched number side place l = report (refusal number side place) 0 0 0 (l .factBuffer) (l .answerBuffer)
 
 -- "8 ..: fact buffer all 0, answer buffer untouched, counts 0. 9 ..: facts and rounds stand, answers 0, answer buffer all 0."
-abbrev pub reported : Outcome → List ℕ → List ℕ → Report
-reported tooManyFacts facts answers = report (refusal 8 0 0) 0 0 0 (cleared facts) answers
-reported (tooManyAnswers F) facts answers = report (refusal 9 0 0) (length F) (lastRound F) 0 (atFront facts (recordsOf F)) (cleared answers)
-reported (decided F A) facts answers =
-    report (word A) (length F) (lastRound F) (length A) (atFront facts (recordsOf F)) (atFront answers (answersBytes A))
+abbrev pub reported : Outcome → Lent → Report
+reported tooManyFacts l = report (refusal 8 0 0) 0 0 0 (cleared (l .factBuffer)) (l .answerBuffer)
+reported (tooManyAnswers F) l = report (refusal 9 0 0) (length F) (lastRound F) 0 (atFront (l .factBuffer) (recordsOf F)) (cleared (l .answerBuffer))
+reported (decided F A) l =
+    report (word A) (length F) (lastRound F) (length A) (atFront (l .factBuffer) (recordsOf F)) (atFront (l .answerBuffer) (answersBytes A))
 
-unfoldable pub decisionOn : Policy → Reading Request → List ℕ → List ℕ → Report
-decisionOn P (got q e) facts answers = reported (decide P q (capacity facts) (room answers)) facts answers
-decisionOn P (refused n p) facts answers = untouched n 2 p facts answers
+unfoldable pub decisionOf : Taken → Lent → Report
+decisionOf (accepted R) l = reported (decide R (capacity (l .factBuffer)) (room (l .answerBuffer))) l
+decisionOf (refusedOn n side p) l = untouched n side p l
 
--- "Policy before request"
-unfoldable pub decisionBy : Reading Accepted → List ℕ → List ℕ → List ℕ → Report
-decisionBy (got A e) request facts answers =
-    let P = policyOf A in decisionOn P (readRequest (P .constants) (P .verbs) request) facts answers
-decisionBy (refused n p) request facts answers = untouched n 1 p facts answers
-
--- policy, request, fact buffer and answer buffer as lent
-unfoldable pub decision : List ℕ → List ℕ → List ℕ → List ℕ → Report
-decision policy request facts answers = decisionBy (readPolicy policy) request facts answers
+unfoldable pub decision : Lent → Report
+decision l = decisionOf (readSlices (l .slices)) l

@@ -77,6 +77,14 @@ pub record World : Type 0 where
 abbrev pub worldOf : Policy → Request → World
 worldOf P q = record { constants = P .constants; verbs = P .verbs; today = q .today }
 
+-- what was read of the lent slices (`Decision.Slices`)
+pub record Read : Type 0 where
+  pub policy : Policy
+  pub request : Request
+
+abbrev pub worldIn : Read → World
+worldIn R = worldOf (R .policy) (R .request)
+
 -- ---- facts
 
 module _ {E F : Type 0} where

@@ -7,7 +7,7 @@ use lib.ListN.{length, take, drop, getD}
 use lib.Dec.{T}
 use Rattle.model.specs.Limits.{principal, unbound, answerBytes}
 use Rattle.model.specs.Lists.{member}
-use Rattle.model.specs.Syntax.{Fact, flat, canSay, Assertion, Constant, Verb, Policy, Request, World, worldOf, Said, said}
+use Rattle.model.specs.Syntax.{Fact, flat, canSay, Assertion, Constant, Verb, Policy, Request, World, worldOf, Read, worldIn, Said, said}
 use Rattle.model.specs.Syntax.{Node, Nodes, says, test, allOf, anyOf, non, exists, end, more}
 use Rattle.model.specs.Kinds.{Demands, noDemands, demandsOf, demandsIn, paramKinds, kindAt, meets, fitting, kinds, kindOf}
 use Rattle.model.specs.Values.{bindingsOf}
@@ -21,40 +21,35 @@ use Rattle.model.specs.Meant.{Outcome, decided, MoreThan, AtMost, Enumer
 use Rattle.model.specs.Rounds.{round, table}
 use Rattle.model.specs.Steps.{eqSaid, step}
 use Rattle.model.specs.Reached.{reach, counting}
-use Rattle.model.specs.Deciding.{countingIn}
+use Rattle.model.specs.Deciding.{countedIn}
 use Rattle.model.specs.Bytes.{got}
 use Rattle.model.specs.Layout.{Accepted, policyOf, node, readPolicy, readRequest}
 use Rattle.model.specs.Safety.{safeRequest}
 use Rattle.model.specs.Safe.{SafeRequest}
-use Rattle.model.specs.Decision.{Verdict, allow, deny, refusal, Report, capacity, room, reported, decision}
+use Rattle.model.specs.Decision.{Slices, Lent, lent, accepted, readSlices, Verdict, allow, deny, refusal, Report, capacity, room, reported, decision}
 
 -- ---- 1. accepted inputs, and what they derive and answer. "Accepted: no refusal from the input stands against it."
 
 abbrev pub ReadAs : List ℕ → Policy → Type 0
 ReadAs policy P = (A : Accepted) × (e : ℕ) × (readPolicy policy ≡ got A e) × (policyOf A ≡ P)
 
-abbrev pub AskedAs : Policy → List ℕ → Request → Type 0
-AskedAs P request q = (e : ℕ) × (readRequest (P .constants) (P .verbs) request ≡ got q e)
-
--- an accepted policy and request, with their bytes
-pub record Inputs (policy request : List ℕ) (P : Policy) (q : Request) : Type 0 where
-  pub readAs : ReadAs policy P
-  pub askedAs : AskedAs P request q
+-- the slices are accepted, and R is what was read of them
+abbrev pub Inputs : Slices → Read → Type 0
+Inputs s R = readSlices s ≡ accepted R
 
 -- what the request's reach derives, the entries of its table, and its answers
-abbrev pub DerivableIn : Policy → Request → Said → Type 0
-DerivableIn P q = Derivable (worldOf P q) (countingIn P q) (q .node)
+abbrev pub DerivableIn : Read → Said → Type 0
+DerivableIn R = Derivable (worldIn R) (countedIn R) (R .request .node)
 
-abbrev pub EntryIn : Policy → Request → Entry → Type 0
-EntryIn P q = FirstIn (worldOf P q) (countingIn P q) (q .node)
+abbrev pub EntryIn : Read → Entry → Type 0
+EntryIn R = FirstIn (worldIn R) (countedIn R) (R .request .node)
 
-abbrev pub AnswerIn : Policy → Request → List ℕ → Type 0
-AnswerIn P q = Satisfies (worldOf P q) (countingIn P q) (q .node)
+abbrev pub AnswerIn : Read → List ℕ → Type 0
+AnswerIn R = Satisfies (worldIn R) (countedIn R) (R .request .node)
 
 -- a record's bytes tell which statement and round it is of
 abbrev pub RecordsTell : Type 0
-RecordsTell = (policy request : List ℕ) (P : Policy) (q : Request) → Inputs policy request P q
-    → (e e′ : Entry) → EntryIn P q e → EntryIn P q e′ → recordOf e ≡ recordOf e′ → e ≡ e′
+RecordsTell = (s : Slices) (R : Read) → Inputs s R → (e e′ : Entry) → EntryIn R e → EntryIn R e′ → recordOf e ≡ recordOf e′ → e ≡ e′
 
 -- ---- 2. added assertions (demand 3; obligation e)
 
@@ -72,20 +67,23 @@ pub record Longer (Q : Assertion → Type 0) (P L : Policy) : Type 0 where
   pub verbs : L .verbs ≡ P .verbs
   pub assertions : Adds Q (P .assertions) (L .assertions)
 
-abbrev pub InReach : Policy → Request → ℕ → Type 0
-InReach P q = Reach (worldOf P q) (P .assertions) (issuers (q .node) (worldOf P q))
+-- "two calls .. on one request, with buffers alike in length and in every byte at entry": another policy, and all else as lent
+abbrev pub withPolicy : List ℕ → Lent → Lent
+withPolicy policy l = lent policy (l .slices .request) (l .factBuffer) (l .answerBuffer)
 
-abbrev pub IssuedOutside : Policy → Request → Assertion → Type 0
-IssuedOutside P q a = ¬ InReach P q (a .issuer)
+abbrev pub InReach : Read → ℕ → Type 0
+InReach R = Reach (worldIn R) (R .policy .assertions) (issuers (R .request .node) (worldIn R))
+
+abbrev pub IssuedOutside : Read → Assertion → Type 0
+IssuedOutside R a = ¬ InReach R (a .issuer)
 
 abbrev pub who : Said → ℕ
 who (said a d f) = a
 
 -- "Each issuer in the reach says the same, in the same rounds, when assertions from outside it count too"
 abbrev pub Insiders : Type 0
-Insiders = (policy request : List ℕ) (P : Policy) (q : Request) → Inputs policy request P q
-    → (n : ℕ) (x : Said) → InReach P q (who x)
-    → Within (Rule (worldOf P q) (P .assertions)) n x ↔ Within (Rule (worldOf P q) (countingIn P q)) n x
+Insiders = (s : Slices) (R : Read) → Inputs s R → (n : ℕ) (x : Said) → InReach R (who x)
+    → Within (Rule (worldIn R) (R .policy .assertions)) n x ↔ Within (Rule (worldIn R) (countedIn R)) n x
 
 -- no "not" at any depth
 abbrev mutual
@@ -136,14 +134,13 @@ InstanceBindings = (policy : List ℕ) (P : Policy) (q : Request) → ReadAs pol
 
 -- "Bindings range over the policy's constants of the variable's kind. .. 255 where not free": those of a request likewise
 abbrev pub AnswerBindings : Type 0
-AnswerBindings = (policy request : List ℕ) (P : Policy) (q : Request) → Inputs policy request P q
-    → (θ : List ℕ) → List·Memᴰ θ (bindingsIn (worldOf P q) (q .node))
-    ↔ ((κ : List ℕ) × Fits (P .constants) (demandsIn (q .node) (P .verbs)) κ × Binds (P .constants) κ (free (q .node)) θ)
+AnswerBindings = (s : Slices) (R : Read) → Inputs s R → (θ : List ℕ) → List·Memᴰ θ (bindingsIn (worldIn R) (R .request .node))
+    ↔ ((κ : List ℕ) × Fits (R .policy .constants) (demandsIn (R .request .node) (R .policy .verbs)) κ
+    × Binds (R .policy .constants) κ (free (R .request .node)) θ)
 
 -- the reader asks item by item; what an accepted request was asked is what its whole node asks, and a choice of kinds fits it
 abbrev pub WholeNodeFits : Type 0
-WholeNodeFits = (policy request : List ℕ) (P : Policy) (q : Request) → Inputs policy request P q
-    → (κ : List ℕ) × Fits (P .constants) (demandsIn (q .node) (P .verbs)) κ
+WholeNodeFits = (s : Slices) (R : Read) → Inputs s R → (κ : List ℕ) × Fits (R .policy .constants) (demandsIn (R .request .node) (R .policy .verbs)) κ
 
 -- 255 is no constant's number
 abbrev pub BelowUnbound : Type 0
@@ -151,10 +148,9 @@ BelowUnbound = (policy : List ℕ) (P : Policy) → ReadAs policy P → (c : ℕ
 
 -- "An answer is .. a constant per variable": of a free variable a constant of its kind, so never 255
 abbrev pub FreeAnswers : Type 0
-FreeAnswers = (policy request : List ℕ) (P : Policy) (q : Request) → Inputs policy request P q
-    → (θ : List ℕ) → AnswerIn P q θ → (v : ℕ) → T (member v (free (q .node)))
-    → List·Memᴰ (kindsIn (worldOf P q) (q .node) v) kinds × (kindAt (P .constants) (getD θ v unbound) ≡ kindsIn (worldOf P q) (q .node) v)
-    × (getD θ v unbound < unbound)
+FreeAnswers = (s : Slices) (R : Read) → Inputs s R → (θ : List ℕ) → AnswerIn R θ → (v : ℕ) → T (member v (free (R .request .node)))
+    → List·Memᴰ (kindsIn (worldIn R) (R .request .node) v) kinds
+    × (kindAt (R .policy .constants) (getD θ v unbound) ≡ kindsIn (worldIn R) (R .request .node) v) × (getD θ v unbound < unbound)
 
 -- ---- 4. "Facts are ground": issuer, speakers and subject are principals of the policy, parameters constants of their verb's kinds; so 255 is none of them
 
@@ -167,7 +163,7 @@ abbrev pub GroundSaid : World → Said → Type 0
 GroundSaid W (said a d f) = (kindAt (W .constants) a ≡ principal) × List·Memᴰ d depths × GroundFact (W .constants) (W .verbs) f
 
 abbrev pub Ground : Type 0
-Ground = (policy request : List ℕ) (P : Policy) (q : Request) → Inputs policy request P q → (x : Said) → DerivableIn P q x → GroundSaid (worldOf P q) x
+Ground = (s : Slices) (R : Read) → Inputs s R → (x : Said) → DerivableIn R x → GroundSaid (worldIn R) x
 
 -- ---- 5. safety
 
@@ -177,6 +173,17 @@ SafelyAsked = (policy request : List ℕ) (P : Policy) → ReadAs policy P
     → (n : Node) (e : ℕ) → node request (P .constants) (P .verbs) 8 noDemands 0 (length request) 9 ≡ got n e → T (safeRequest n) ↔ SafeRequest n
 
 -- ==== For proofs from here on: what the demands say again, of calls of the engine (crate `demands`).
+
+abbrev pub AskedAs : Policy → List ℕ → Request → Type 0
+AskedAs P request q = (e : ℕ) × (readRequest (P .constants) (P .verbs) request ≡ got q e)
+
+-- slice by slice
+pub record InputsBySlice (s : Slices) (R : Read) : Type 0 where
+  pub readAs : ReadAs (s .policy) (R .policy)
+  pub askedAs : AskedAs (R .policy) (s .request) (R .request)
+
+abbrev pub SliceBySlice : Type 0
+SliceBySlice = (s : Slices) (R : Read) → Inputs s R ↔ InputsBySlice s R
 
 -- ---- 6. rules and rounds
 
@@ -195,44 +202,43 @@ TableEntries = (W : World) (𝒜 : List Assertion) (c : ℕ) → length (table e
 
 -- "Rounds reported: the last round that adds a fact, so never more than the facts", whatever the bytes
 abbrev pub RoundsAtMostFacts : Type 0
-RoundsAtMostFacts = (policy request facts answers : List ℕ) → decision policy request facts answers .rounds ≤ decision policy request facts answers .facts
+RoundsAtMostFacts = (l : Lent) → decision l .rounds ≤ decision l .facts
 
 -- ---- 7. the outcome
 
-abbrev pub MeantBy : Policy → Request → ℕ → ℕ → Outcome → Type 0
-MeantBy P q = Meant (worldOf P q) (countingIn P q) (q .node)
+abbrev pub MeantBy : Read → ℕ → ℕ → Outcome → Type 0
+MeantBy R = Meant (worldIn R) (countedIn R) (R .request .node)
 
 -- the decision reports an outcome that is meant, and no other outcome is
 abbrev pub Meaning : Type 0
-Meaning = (policy request facts answers : List ℕ) (P : Policy) (q : Request) → Inputs policy request P q
-    → (o : Outcome) × (decision policy request facts answers ≡ reported o facts answers) × MeantBy P q (capacity facts) (room answers) o
-    × ((o′ : Outcome) → MeantBy P q (capacity facts) (room answers) o′ → o′ ≡ o)
+Meaning = (l : Lent) (R : Read) → Inputs (l .slices) R
+    → (o : Outcome) × (decision l ≡ reported o l) × MeantBy R (capacity (l .factBuffer)) (room (l .answerBuffer)) o
+    × ((o′ : Outcome) → MeantBy R (capacity (l .factBuffer)) (room (l .answerBuffer)) o′ → o′ ≡ o)
 
 -- 8 exactly if more statements are derivable than the capacity
 abbrev pub Eight : Type 0
-Eight = (policy request facts answers : List ℕ) (P : Policy) (q : Request) → Inputs policy request P q
-    → (decision policy request facts answers .verdict ≡ refusal 8 0 0) ↔ MoreThan (capacity facts) (DerivableIn P q)
+Eight = (l : Lent) (R : Read) → Inputs (l .slices) R
+    → (decision l .verdict ≡ refusal 8 0 0) ↔ MoreThan (capacity (l .factBuffer)) (DerivableIn R)
 
 -- 9 exactly if not 8 and more bindings satisfy than there is room for
 abbrev pub Nine : Type 0
-Nine = (policy request facts answers : List ℕ) (P : Policy) (q : Request) → Inputs policy request P q
-    → (decision policy request facts answers .verdict ≡ refusal 9 0 0)
-    ↔ (AtMost (capacity facts) (DerivableIn P q) × MoreThan (room answers) (AnswerIn P q))
+Nine = (l : Lent) (R : Read) → Inputs (l .slices) R
+    → (decision l .verdict ≡ refusal 9 0 0) ↔ (AtMost (capacity (l .factBuffer)) (DerivableIn R) × MoreThan (room (l .answerBuffer)) (AnswerIn R))
 
 -- otherwise the records are exactly the derivable statements with their first rounds, ascending, once each, and the answers exactly the satisfying bindings,
 -- ascending, once each
 abbrev pub Decides : Type 0
-Decides = (policy request facts answers : List ℕ) (P : Policy) (q : Request) → Inputs policy request P q
-    → AtMost (capacity facts) (DerivableIn P q) → AtMost (room answers) (AnswerIn P q)
-    → (F : List Entry) × (A : List (List ℕ)) × Enumerates keyOf (EntryIn P q) F × Enumerates itself (AnswerIn P q) A
-    × (decision policy request facts answers ≡ reported (decided F A) facts answers)
+Decides = (l : Lent) (R : Read) → Inputs (l .slices) R
+    → AtMost (capacity (l .factBuffer)) (DerivableIn R) → AtMost (room (l .answerBuffer)) (AnswerIn R)
+    → (F : List Entry) × (A : List (List ℕ)) × Enumerates keyOf (EntryIn R) F × Enumerates itself (AnswerIn R) A
+    × (decision l ≡ reported (decided F A) l)
 
 -- then allow exactly if some binding satisfies, deny exactly if none does
 abbrev pub Allows : Type 0
-Allows = (policy request facts answers : List ℕ) (P : Policy) (q : Request) → Inputs policy request P q
-    → AtMost (capacity facts) (DerivableIn P q) → AtMost (room answers) (AnswerIn P q)
-    → ((decision policy request facts answers .verdict ≡ allow) ↔ ((θ : List ℕ) × AnswerIn P q θ))
-    × ((decision policy request facts answers .verdict ≡ deny) ↔ (¬ ((θ : List ℕ) × AnswerIn P q θ)))
+Allows = (l : Lent) (R : Read) → Inputs (l .slices) R
+    → AtMost (capacity (l .factBuffer)) (DerivableIn R) → AtMost (room (l .answerBuffer)) (AnswerIn R)
+    → ((decision l .verdict ≡ allow) ↔ ((θ : List ℕ) × AnswerIn R θ))
+    × ((decision l .verdict ≡ deny) ↔ (¬ ((θ : List ℕ) × AnswerIn R θ)))
 
 -- ---- 8. the reach, and added assertions
 
@@ -244,13 +250,12 @@ ComputedReach = (W : World) (𝒜 : List Assertion) (asked : List ℕ)
 
 -- first half: "If every added issuer is outside the reach in the shorter policy, result and both buffers are the same, byte for byte."
 abbrev pub Outsiders : Type 0
-Outsiders = (policy longer request facts answers : List ℕ) (P L : Policy) (q : Request) → Inputs policy request P q → ReadAs longer L
-    → Longer (IssuedOutside P q) P L
-    → decision longer request facts answers ≡ decision policy request facts answers
+Outsiders = (l : Lent) (longer : List ℕ) (R : Read) (L : Policy) → Inputs (l .slices) R → ReadAs longer L
+    → Longer (IssuedOutside R) (R .policy) L → decision (withPolicy longer l) ≡ decision l
 
 -- second half: "Whoever issues them, if the request has no 'not' and both get a decision, every answer of the shorter is an answer of the longer."
 abbrev pub Growing : Type 0
-Growing = (policy longer request facts answers : List ℕ) (P L : Policy) (q : Request) → Inputs policy request P q → ReadAs longer L
-    → Longer Anyone P L → Positive (q .node)
-    → IsDecision (decision policy request facts answers .verdict) → IsDecision (decision longer request facts answers .verdict)
-    → (θ : List ℕ) → ListedIn (decision policy request facts answers) θ → ListedIn (decision longer request facts answers) θ
+Growing = (l : Lent) (longer : List ℕ) (R : Read) (L : Policy) → Inputs (l .slices) R → ReadAs longer L
+    → Longer Anyone (R .policy) L → Positive (R .request .node)
+    → IsDecision (decision l .verdict) → IsDecision (decision (withPolicy longer l) .verdict)
+    → (θ : List ℕ) → ListedIn (decision l) θ → ListedIn (decision (withPolicy longer l)) θ

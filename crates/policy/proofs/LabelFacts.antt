@@ -18,11 +18,11 @@ use Rattle.model.specs.Policies.{Item, contents, headed, ended, constantItem, A
 use Rattle.model.proofs.ReadFacts.{choose-yes, andThen-got}
 use Rattle.policy.specs.declared.Index.{Index}
 use Rattle.policy.specs.declared.Part.{Part}
-use Rattle.policy.specs.Items.{constantsAt}
+use Rattle.slices.specs.Items.{constantsAt}
 use Rattle.policy.specs.Index.{held, indexOf, refusal, handedOut, labelIn, labelOf, noPart, partAt, labelPart}
-use Rattle.policy.proofs.FormFacts.{constant-within, constant-two}
-use Rattle.policy.proofs.ListFacts.{list-got, items-length, items-starts, contents-at, contents-length, starts-at}
-use Rattle.policy.proofs.ItemFacts.{constant-reads}
+use Rattle.names.proofs.FormFacts.{constant-within, constant-two}
+use Rattle.slices.proofs.ListFacts.{list-got, items-length, items-starts, contents-at, contents-length, starts-at}
+use Rattle.names.proofs.ItemFacts.{constant-reads}
 use Rattle.policy.proofs.TableFacts.{held-at, kind-is}
 use Rattle.policy.proofs.PolicyFacts.{Constants, constants-counted, constants-right}
 use Rattle.model.proofs.PolicyReader.{policy-is}

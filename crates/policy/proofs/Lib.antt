@@ -1,10 +1,4 @@
-pub mod FormFacts
-pub mod ListFacts
-pub mod ItemFacts
-pub mod Seeking
-pub mod AssertionLaws
 pub mod TableLaws
 pub mod TableFacts
-pub mod AssertionFacts
 pub mod PolicyFacts
 pub mod LabelFacts

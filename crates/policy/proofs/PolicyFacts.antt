@@ -17,18 +17,18 @@ use Rattle.model.specs.Policies.{Item, contents, versionThere, lengthRight, hea
 use Rattle.model.specs.Policies.{assertionItem, Accepted, assertionsFrom, verbsFrom, constantsFrom, readPolicy}
 use Rattle.model.proofs.ReadFacts.{never, choose-yes, andThen-got}
 use Rattle.phrases.specs.Tables.{Tables}
-use Rattle.policy.specs.declared.slices.Step.{Step}
-use Rattle.policy.specs.declared.slices.Step.the-variants.{Next, Refused}
+use Rattle.slices.specs.declared.Step.{Step}
+use Rattle.slices.specs.declared.Step.the-variants.{Next, Refused}
 use Rattle.policy.specs.declared.Index.{Index}
-use Rattle.policy.specs.Steps.{step, thenStep, countRight, endedAt}
-use Rattle.policy.specs.Items.{startsAt, itemsAt, constantsAt, verbsAt, assertionsAt}
+use Rattle.slices.specs.Steps.{step, thenStep, countRight, endedAt}
+use Rattle.slices.specs.Items.{startsAt, itemsAt, constantsAt, verbsAt, assertionsAt}
 use Rattle.policy.specs.Index.{held, kindTable, verbTable, indexOf, refusal, handedOut, kindsAt, signaturesAt, indexAt}
-use Rattle.policy.specs.Assertions.{itemBy, itemsBy, assertionFormBy, assertionsBy}
-use Rattle.policy.proofs.ListFacts.{Reads, Counted, counted, step-refused, step-next, list-is, list-got, list-right, items-length, items-starts}
-use Rattle.policy.proofs.ListFacts.{contents-each, T-true}
-use Rattle.policy.proofs.ItemFacts.{constant-reads, verb-reads, constant-right, verb-right}
+use Rattle.assertions.specs.Assertions.{itemBy, itemsBy, assertionFormBy, assertionsBy}
+use Rattle.slices.proofs.ListFacts.{Reads, Counted, counted, step-refused, step-next, list-is, list-got, list-right, items-length, items-starts}
+use Rattle.slices.proofs.ListFacts.{contents-each, T-true}
+use Rattle.names.proofs.ItemFacts.{constant-reads, verb-reads, constant-right, verb-right}
 use Rattle.policy.proofs.TableFacts.{kinds-are, rows-are, constant-kind, Signed, verb-signed, verb-arity, tables}
-use Rattle.policy.proofs.AssertionFacts.{Shaped, shaped, item-is}
+use Rattle.assertions.proofs.AssertionFacts.{Shaped, shaped, item-is}
 
 -- ---- assertions, one after the other
 

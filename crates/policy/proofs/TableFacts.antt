@@ -21,9 +21,9 @@ use Rattle.model.specs.Forms.{isKind, labelForm, itemThere, numberForm, valueFo
 use Rattle.model.specs.Policies.{contents}
 use Rattle.model.proofs.ListFacts.{and-of, or-of, all-of}
 use Rattle.phrases.specs.Tables.{Tables}
-use Rattle.policy.specs.Items.{startsAt, itemsAt, constantsAt, verbsAt}
+use Rattle.slices.specs.Items.{startsAt, itemsAt, constantsAt, verbsAt}
 use Rattle.policy.specs.Index.{held, kindTable, rowOf, rowsOf, verbTable, kindOf, rowAt, kindsAt, signaturesAt}
-use Rattle.policy.proofs.ListFacts.{contents-length, contents-at}
+use Rattle.slices.proofs.ListFacts.{contents-length, contents-at}
 use Rattle.model.proofs.ByteFacts.{zeros, length-pad, bytes-length}
 use Rattle.model.proofs.Tests.{true-T}
 use lib.ListN.{take, length-append}

@@ -10,7 +10,7 @@ use lib.Seq.{sets, sets-eq}
 use Rattle.model.specs.Lists.{each}
 use Rattle.model.specs.Bytes.{byteAt, u16At, choose}
 use Rattle.model.specs.Readings.{itemEnd, assertionEnd}
-use Rattle.policy.specs.Items.{startsAt}
+use Rattle.slices.specs.Items.{startsAt}
 use Rattle.policy.specs.Index.{held, kindOf, rowAt, kindsAt, signaturesAt}
 
 any-choice : (b : Bool) (x y : List ℕ) (n : ℕ) → length x ≡ n → length y ≡ n → length (choose b x y) ≡ n

@@ -10,7 +10,7 @@ unfoldable pub use Rattle.model.specs.Labels.{labelIn, labelOf}
 use Rattle.model.specs.Bytes.{byteAt, u16At, choose, Reading, got, refused}
 use Rattle.model.specs.Readings.{itemEnd, assertionEnd, hasLabel}
 use Rattle.model.specs.Policies.{contents, offsets, Accepted, readPolicy}
-use Rattle.policy.specs.Items.{startsAt}
+use Rattle.slices.specs.Items.{startsAt}
 use Rattle.policy.specs.declared.Answer.{Answer}
 use Rattle.policy.specs.declared.Answer.the-variants as answers
 use Rattle.policy.specs.declared.Index.{Index}

@@ -1,5 +1,1 @@
-pub mod Steps
-pub mod Items
 pub mod Index
-pub mod Assertions
-pub mod Seeking

@@ -6,15 +6,11 @@ ghost use lib.ListN.{length};
 ghost use Rattle.model.specs.Bytes.{u16At, got};
 ghost use Rattle.model.specs.Limits.{maxConstants, maxVerbs, maxAssertions};
 ghost use Rattle.model.specs.Policies.{listAt, constantItem, verbItem, assertionsFrom, verbsFrom, constantsFrom, readPolicy};
-ghost use Rattle.policy.specs.Items.{constantsAt, verbsAt};
+ghost use Rattle.slices.specs.Items.{constantsAt, verbsAt};
 ghost use Rattle.wire.specs.Budget.{longest};
 ghost use Rattle.policy.specs.Index.{refusal, indexAt, handedOut, labelOf, labelPart};
 
-pub mod assertions;
-pub mod constants;
-pub mod slices;
 pub mod tables;
-pub mod verbs;
 
 // The constants stand behind their 2-byte count.
 const FIRST_CONSTANT: usize = limits::HEADER + 2;
@@ -107,7 +103,7 @@ fn with_constants(s: &[u8], p: usize) -> Index
     requires { ⌜ (length (now s) ≤ longest) × (listAt (now s) 1 maxConstants (constantItem (now s)) 5 ≡ got (constantsAt (now s) (u16At (now s) 5) 7) p) ⌝ }
     ensures { λ r. ⌜ r ≡ handedOut (verbsFrom (now (s .entry)) (constantsAt (now (s .entry)) (u16At (now (s .entry)) 5) 7) p) ⌝ }
 {
-    match verbs::verbs(s, p) {
+    match names::verbs::verbs(s, p) {
         Step::Next(q) => with_verbs(s, p, q),
         Step::Refused(number, place) => refused(number, place),
     }
@@ -118,7 +114,7 @@ fn headed(s: &[u8]) -> Index
     requires { ⌜ length (now s) ≤ longest ⌝ }
     ensures { λ r. ⌜ r ≡ handedOut (constantsFrom (now (s .entry))) ⌝ }
 {
-    match constants::constants(s, limits::HEADER) {
+    match names::constants::constants(s, limits::HEADER) {
         Step::Next(p) => with_constants(s, p),
         Step::Refused(number, place) => refused(number, place),
     }

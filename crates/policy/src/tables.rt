@@ -9,7 +9,7 @@ ghost use Rattle.model.specs.Limits.{maxConstants, maxVerbs, maxAssertions};
 ghost use Rattle.model.specs.Lists.{each};
 ghost use Rattle.model.specs.Readings.{itemEnd, assertionEnd};
 ghost use Rattle.wire.specs.Budget.{farthest};
-ghost use Rattle.policy.specs.Items.{startsAt};
+ghost use Rattle.slices.specs.Items.{startsAt};
 ghost use Rattle.policy.specs.Index.{held, kindOf, rowAt, kindsAt, signaturesAt};
 
 // The rows of all verbs, verb 0 first.

@@ -145,10 +145,10 @@ pub fn read(ks: &[u8], sg: &[u8], s: &[u8]) -> Request
         → r ≡ handedOut vs (readRequest cs vs (now (s .entry)))) ⌝ }
     ensures short { λ r. ⌜ (r .refusal ≡ 0 → length (now (s .entry)) ≤ longest) ⌝ }
 {
-    if !policy::slices::version_there(s) {
+    if !slices::version_there(s) {
         return refused(1, 0);
     }
-    if !policy::slices::length_right(s) {
+    if !slices::length_right(s) {
         return refused(2, limits::LENGTH_AT);
     }
     whole(ks, sg, s)

@@ -4,7 +4,7 @@ use mathlib.Core.Path.{_≡_, sym, ap, _∙_}
 use mathlib.Core.List.{List, []}
 use Prim.Native.Nat.{ℕ}
 use lib.ListN.{replicate}
-use Rattle.model.specs.Decision.{decision}
+use Rattle.model.specs.Decision.{Lent, lent, decision}
 use Rattle.demands.specs.Demands.{Call}
 use Rattle.outcome.specs.declared.Outcome.{Outcome}
 use Rattle.outcome.specs.Reported.{reportOf}
@@ -14,15 +14,14 @@ use Rattle.desk.proofs.answer.Statement.{statement}
 use Rattle.desk.proofs.answer.Tie as tie
 
 -- the line of a call's outcome is that of the model's report
-line-of : (policy request facts answers : List ℕ) (o : Outcome) (f a : List ℕ) → Call policy request facts answers (reportOf o f a)
-    → lineOf (reportOf o [] []) ≡ lineOf (decision policy request facts answers)
-line-of policy request facts answers o f a e = sym (any-buffers o f a) ∙ ap lineOf e
+line-of : (l : Lent) (o : Outcome) (f a : List ℕ) → Call l (reportOf o f a) → lineOf (reportOf o [] []) ≡ lineOf (decision l)
+line-of l o f a e = sym (any-buffers o f a) ∙ ap lineOf e
 
 returns : tie.Need-returns
 returns c =
     let d = c .before .before .before .before .decide in
     let l = c .line .ensures in
-    (l .0, l .1 .0 ∙ line-of _ _ (replicate 65536 0) (replicate 1024 0) (d .result) _ _ (d .ensures))
+    (l .0, l .1 .0 ∙ line-of (lent _ _ (replicate 65536 0) (replicate 1024 0)) (d .result) _ _ (d .ensures))
 
 pub answer-spec : {M : Type 1} → statement M
 answer-spec =

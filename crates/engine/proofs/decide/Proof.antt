@@ -1,4 +1,5 @@
 use Rattle.engine.proofs.Refusing.{policy-call}
+use Rattle.model.specs.Decision.{lent}
 use borrow.Author.Needs.{needs}
 use Rattle.engine.proofs.decide.Statement.{statement}
 use Rattle.engine.proofs.decide.Tie as tie
@@ -9,7 +10,7 @@ returns-2 c =
     let read = told .before .before in
     let entry = read .before .before .before .before .before in
     let a = entry .args in
-    policy-call (a .policy .now) (a .request .now) (a .facts .now) (a .answers .now) (read .read .result) _ _ (read .read .ensures) (told .a .given .1)
+    policy-call (lent (a .policy .now) (a .request .now) (a .facts .now) (a .answers .now)) (read .read .result) _ _ (read .read .ensures) (told .a .given .1)
 
 pub decide-spec : {M : Type 1} → statement M
 decide-spec =

@@ -1,31 +1,31 @@
 use Rattle.engine.proofs.Reporting.{facts-fit, rounds-fit, numbers-are, facts-are, answers-are}
+use Rattle.model.specs.Decision.{Lent, lent}
 use borrow.Author.Needs.{needs}
 use Rattle.engine.proofs.secpal_decide.Statement.{statement}
 use Rattle.engine.proofs.secpal_decide.Tie as tie
 
 -- the entry, from the place after the decision
 abbrev entry : tie.After-decide → tie.Start
-entry c = let lent = c .before .before .before in lent .before .before .before .before
+entry c = let called = c .before .before .before in called .before .before .before .before
+
+abbrev given : tie.Start → Lent
+given c = let a = c .args in lent (a .policy .now) (a .request .now) (a .facts .now) (a .answers .now)
 
 in-numbers-requires : tie.Need-in-numbers-requires
 in-numbers-requires c κs =
     let decide = c .before .before .before .before in
     let d = decide .decide in
-    let a = entry decide .args in (
-      facts-fit (a .policy .now) (a .request .now) (a .facts .now) (a .answers .now) (d .result) _ _ (d .ensures),
-      rounds-fit (a .policy .now) (a .request .now) (a .facts .now) (a .answers .now) (d .result) _ _ (d .ensures),
-    )
+    let l = given (entry decide) in
+    (facts-fit l (d .result) _ _ (d .ensures), rounds-fit l (d .result) _ _ (d .ensures))
 
 returns : tie.Need-returns
 returns c =
     let decide = c .before .before .before .before .before in
     let d = decide .decide in
-    let a = entry decide .args in (
-      numbers-are (a .policy .now) (a .request .now) (a .facts .now) (a .answers .now) (d .result) _ _ (d .ensures) (c .in-numbers .ensures),
-      (
-        facts-are (a .policy .now) (a .request .now) (a .facts .now) (a .answers .now) (d .result) _ _ (d .ensures),
-        answers-are (a .policy .now) (a .request .now) (a .facts .now) (a .answers .now) (d .result) _ _ (d .ensures),
-      ),
+    let l = given (entry decide) in (
+      numbers-are l (d .result) _ _ (d .ensures) (c .in-numbers .ensures),
+      facts-are l (d .result) _ _ (d .ensures),
+      answers-are l (d .result) _ _ (d .ensures),
     )
 
 pub secpal-decide-spec : {M : Type 1} → statement M

@@ -1,11 +1,12 @@
 -- `secpal_reach` meets its contract, by what the policy's reader says.
 use mathlib.Core.Path.{sym, ap, _∙_}
 use Rattle.model.specs.Policies.{readPolicy}
+use Rattle.model.specs.Decision.{slices}
 use Rattle.demands.specs.Lookups.{Reached}
 use Rattle.policy.specs.declared.Index.{Index}
 use Rattle.engine.specs.Numbers.{refusalOf}
-use Rattle.engine.proofs.Refusing.{policy-refused}
-use Rattle.engine.proofs.MarkLaws.{policy-words}
+use Rattle.engine.proofs.Refusing.{policy-refused, policy-taken}
+use Rattle.engine.proofs.MarkLaws.{refused-words}
 use borrow.Author.Needs.{needs}
 use Rattle.engine.proofs.secpal_reach.Statement.{statement}
 use Rattle.engine.proofs.secpal_reach.Tie as tie
@@ -17,7 +18,8 @@ returns-2 c =
     let entry = read .before .before .before .before in
     let args = entry .args in
     let says = policy-refused (readPolicy (args .policy .now)) _ _ (ap (λ (x : Index). x .answer) (sym (read .read .ensures)) ∙ told .a .given .1) in
-    let words = sym (policy-words (args .policy .now) (args .request .now) (args .marks .now) _ _ says) in
+    let s = slices (args .policy .now) (args .request .now) in
+    let words = sym (refused-words s (args .marks .now) _ 1 _ (policy-taken s _ _ says)) in
     (c .refused .ensures ∙ ap refusalOf words, ap (λ (κ : Reached). κ .marks) words)
 
 pub secpal-reach-spec : {M : Type 1} → statement M

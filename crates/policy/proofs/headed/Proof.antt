@@ -2,8 +2,8 @@ use borrow.Author.Needs.{needs}
 use Rattle.policy.proofs.headed.Statement.{statement}
 use Rattle.policy.proofs.headed.Tie as tie
 use native.Mathlib.Omega.{arith}
-use Rattle.policy.proofs.ListFacts.{list-next}
-use Rattle.policy.proofs.ItemFacts.{constant-reads}
+use Rattle.slices.proofs.ListFacts.{list-next}
+use Rattle.names.proofs.ItemFacts.{constant-reads}
 use Rattle.model.specs.Policies.{constantsFrom}
 use Rattle.policy.proofs.PolicyFacts.{then-taken, then-refused}
 

@@ -2,8 +2,8 @@ use borrow.Author.Needs.{needs}
 use Rattle.policy.proofs.with_constants.Statement.{statement}
 use Rattle.policy.proofs.with_constants.Tie as tie
 use native.Mathlib.Omega.{arith}
-use Rattle.policy.proofs.ListFacts.{list-next}
-use Rattle.policy.proofs.ItemFacts.{verb-reads}
+use Rattle.slices.proofs.ListFacts.{list-next}
+use Rattle.names.proofs.ItemFacts.{verb-reads}
 use Rattle.model.specs.Policies.{verbsFrom}
 use Rattle.policy.proofs.PolicyFacts.{constants-within, then-taken, then-refused}
 

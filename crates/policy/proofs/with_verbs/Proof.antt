@@ -5,7 +5,7 @@ use native.Mathlib.Omega.{arith}
 use mathlib.Core.Path.{_∙_, ap}
 use Prim.Native.Nat.{ℕ, _+_}
 use Rattle.policy.specs.Index.{kindsAt, signaturesAt}
-use Rattle.policy.proofs.ListFacts.{Counted}
+use Rattle.slices.proofs.ListFacts.{Counted}
 use Rattle.policy.proofs.PolicyFacts.{constants-within, constants-counted, verbs-within, verbs-counted, rest-counted, rest-taken, rest-refused}
 
 -- the verbs are as many as their count says, and end within the bytes

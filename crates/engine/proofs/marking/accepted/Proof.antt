@@ -1,9 +1,10 @@
 -- `marking::accepted` meets its contract, by what the request's reader says.
 use mathlib.Core.Path.{_≡_, sym, ap, _∙_}
+use Rattle.model.specs.Decision.{slices}
 use Rattle.demands.specs.Lookups.{Reached}
 use Rattle.engine.specs.Numbers.{refusalOf}
-use Rattle.engine.proofs.Refusing.{policy-got, takes, reading-refused}
-use Rattle.engine.proofs.MarkLaws.{accepted-words, request-words}
+use Rattle.engine.proofs.Refusing.{takes, request-taken}
+use Rattle.engine.proofs.MarkLaws.{accepted-words, refused-words}
 use borrow.Author.Needs.{needs}
 use Rattle.engine.proofs.marking.accepted.Statement.{statement}
 use Rattle.engine.proofs.marking.accepted.Tie as tie
@@ -38,11 +39,9 @@ returns-2 c =
     let entry = read .before .before .before .before .before .before .before .before in
     let args = entry .args in
     let d = read .read in
-    let got = policy-got (args .policy .now) (args .request .now) (args .x) (entry .pre .0) (entry .pre .1) (d .result) (d .ensures .0) in
-    let refused = reading-refused (args .policy .now) (args .request .now) (args .x) (entry .pre .0) (entry .pre .1) (d .result) (d .ensures .0)
+    let refused = request-taken (args .policy .now) (args .request .now) (args .x) (entry .pre .0) (entry .pre .1) (d .result) (d .ensures .0)
     (search needs) in
-    let words = sym (request-words (args .policy .now) (args .request .now) (args .marks .now) (got .0) (got .1) (d .result .refusal) (d .result .place)
-    (got .2) refused) in
+    let words = sym (refused-words (slices (args .policy .now) (args .request .now)) (args .marks .now) (d .result .refusal) 2 (d .result .place) refused) in
     (c .refused2 .ensures ∙ ap refusalOf words, ap (λ (κ : Reached). κ .marks) words)
 
 pub accepted-spec : {M : Type 1} → statement M

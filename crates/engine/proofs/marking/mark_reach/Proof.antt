@@ -3,6 +3,7 @@ use mathlib.Core.Path.{_∙_}
 use native.Mathlib.Omega.{arith}
 use lib.ListN.{length}
 use Rattle.model.specs.Policies.{policyOf}
+use Rattle.model.specs.Deciding.{read}
 use Rattle.demands.specs.Lookups.{reachOf}
 use Rattle.engine.proofs.Accepting.{accepted-answer}
 use Rattle.engine.proofs.MarkLaws.{bytes-marks, reach-marks}
@@ -23,7 +24,7 @@ returns c =
     λ A q accepts.
     let is = asked .asked .ensures (entry .args .policy .now) A q accepts (λ i. omega (arith, known .shared-slice-known .given i)) in
     let marks = reach-marks accepts (asked .asked .result) (reached .reached .result) is (reached .reached .ensures) in
-    mark .mark .ensures ∙ bytes-marks (reachOf (policyOf A) q) (reached .reached .result) marks (length (entry .args .marks .now)) 0
+    mark .mark .ensures ∙ bytes-marks (reachOf (read (policyOf A) q)) (reached .reached .result) marks (length (entry .args .marks .now)) 0
 
 pub mark-reach-spec : {M : Type 1} → statement M
 mark-reach-spec =

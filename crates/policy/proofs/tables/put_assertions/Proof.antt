@@ -4,7 +4,7 @@ use native.Mathlib.Omega.{arith}
 use lib.ListN.{length, set, length-set}
 use lib.Seq.{sets}
 use Rattle.wire.specs.Budget.{farthest}
-use Rattle.policy.specs.Items.{startsAt}
+use Rattle.slices.specs.Items.{startsAt}
 use Rattle.model.specs.Readings.{assertionEnd}
 use Rattle.policy.proofs.TableLaws.{all-starts, left-starts, done-starts, assertion-next}
 use Rattle.policy.proofs.tables.put_assertions.Statement.{statement}

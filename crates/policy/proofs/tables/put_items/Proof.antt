@@ -4,9 +4,9 @@ use native.Mathlib.Omega.{arith}
 use lib.ListN.{length, set, length-set}
 use lib.Seq.{sets}
 use Rattle.wire.specs.Budget.{farthest}
-use Rattle.policy.specs.Items.{startsAt}
+use Rattle.slices.specs.Items.{startsAt}
 use Rattle.model.specs.Readings.{itemEnd}
-use Rattle.policy.proofs.ListFacts.{item-end}
+use Rattle.slices.proofs.ListFacts.{item-end}
 use Rattle.policy.proofs.TableLaws.{all-starts, left-starts, done-starts}
 use Rattle.policy.proofs.tables.put_items.Statement.{statement}
 use Rattle.policy.proofs.tables.put_items.Tie as tie

@@ -4,11 +4,11 @@ use native.Mathlib.Omega.{arith}
 use lib.ListN.{length, set, length-set}
 use lib.Seq.{sets}
 use Rattle.wire.specs.Budget.{farthest}
-use Rattle.policy.specs.Items.{startsAt}
+use Rattle.slices.specs.Items.{startsAt}
 use mathlib.Core.List.{map}
 use Rattle.model.specs.Readings.{itemEnd}
 use Rattle.policy.specs.Index.{kindOf}
-use Rattle.policy.proofs.ListFacts.{item-end}
+use Rattle.slices.proofs.ListFacts.{item-end}
 use Rattle.policy.proofs.TableLaws.{all-map, left-map, done-map, kind-at}
 use Rattle.policy.proofs.tables.put_kinds.Statement.{statement}
 use Rattle.policy.proofs.tables.put_kinds.Tie as tie

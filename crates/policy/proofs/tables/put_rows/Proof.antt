@@ -4,11 +4,11 @@ use native.Mathlib.Omega.{arith}
 use lib.ListN.{length, set, length-set}
 use lib.Seq.{sets}
 use Rattle.wire.specs.Budget.{farthest}
-use Rattle.policy.specs.Items.{startsAt}
+use Rattle.slices.specs.Items.{startsAt}
 use Rattle.model.specs.Lists.{each}
 use Rattle.model.specs.Readings.{itemEnd}
 use Rattle.policy.specs.Index.{rowAt}
-use Rattle.policy.proofs.ListFacts.{item-end}
+use Rattle.slices.proofs.ListFacts.{item-end}
 use Rattle.policy.proofs.TableLaws.{all-rows, left-rows, done-rows, row-length}
 use Rattle.policy.proofs.tables.put_rows.Statement.{statement}
 use Rattle.policy.proofs.tables.put_rows.Tie as tie

@@ -1,0 +1,2 @@
+pub mod AssertionLaws
+pub mod AssertionFacts
