@@ -1,16 +1,16 @@
 -- The rule cond over a laid-out assertion: what a fact of the table gives in the place of a body fact is what uses of the rule with it give.
--- The frame is over the model's bindings and constraints, so the search's instances are the rule's.
+-- The frame is over the model's bindings and constraints and its plan is right, so the search's instances are the rule's.
 use mathlib.Core.Path.{_≡_, refl, sym, ap, subst, _∙_}
-use mathlib.Core.Logic.{inl, _≢_}
+use mathlib.Core.Logic.{inl, inr, _≢_}
 use mathlib.Core.Bool.{Bool, true, false, cond}
-use mathlib.Core.Option.{Option}
-use mathlib.Core.List.{List, [], _∷_, map, List·Memᴰ, List·Memᴰ·not-nil, Memᴰ·of-map}
-use Prim.Native.Nat.{ℕ, _-_, _≤_, _<_}
+use mathlib.Core.Option.{Option, some}
+use mathlib.Core.List.{List, [], _∷_, map, List·Memᴰ, List·Memᴰ·tail, List·Memᴰ·not-nil, Memᴰ·of-map}
+use Prim.Native.Nat.{ℕ, _<_}
 use native.Mathlib.Decide.{ℕ-discrete}
 use native.Mathlib.Omega.{arith}
 use lib.ListN.{length, getD}
 use lib.Dec.{T, eqb, ltb}
-use borrow.Author.Tests.{eq-eqb, eqb-true, lt-ltb, ltb-true}
+use borrow.Author.Tests.{eq-eqb, eqb-true, lt-ltb, ltb-true, le-ltb}
 use Rattle.model.specs.Lists.{all}
 use Rattle.model.specs.Syntax.{Expr, Fact, mapFact, Assertion, World, Said, said}
 use Rattle.model.specs.Kinds.{variables}
@@ -23,17 +23,19 @@ use Rattle.model.proofs.RecordFacts.{arity-map}
 use Rattle.fact.specs.Places.{stampOf, factOf}
 use Rattle.rules.specs.Rows.{noFact}
 use Rattle.rules.specs.Matching.{fits, follow}
+use Rattle.rules.specs.Plan.{bodyFact, Plan}
 use Rattle.rules.specs.Patterns.{Frame}
-use Rattle.rules.specs.Cond.{without, firstFacts, headEntry, bodyRow, condOf, condAt, condFirst, unbound8}
-use Rattle.rules.proofs.MatchFacts.{Ground}
-use Rattle.rules.proofs.ExtendFacts.{L, In}
-use Rattle.rules.proofs.Masks.{Less, one-less, still, other, none-left, firsts}
-use Rattle.rules.proofs.CondFacts.{follow-of, follow-in, not-new, Left, Search, Met, MetAll, Onward, Instance, Try, match-of, match-in}
-use Rattle.rules.proofs.CondFacts.{match-long, cond-of, cond-in}
+use Rattle.rules.specs.Cond.{may, headEntry, bodyRow, sourceOf, searchBy, condAt, condFirst, unbound8}
+use Rattle.rules.specs.Valid.{given}
+use Rattle.rules.proofs.MatchFacts.{Under, Ground, row-on, row-bound, Fitted, fits-of, fits-some}
+use Rattle.rules.proofs.ExtendFacts.{L, In, unbound-at, stands, fair-start, fair-on}
+use Rattle.rules.proofs.Following.{follow-of, follow-in}
+use Rattle.rules.proofs.StepFacts.{not-new, Marks, marks-row, Search, Met}
+use Rattle.rules.proofs.CondFacts.{plan-of, plan-in}
 use Rattle.rules.proofs.RoundLaw.{Given, Held, derived, within}
 use Rattle.rules.proofs.Good.{good, key-below, below-ground}
 use Rattle.rules.proofs.UseFacts.{told}
-use Rattle.rules.proofs.Framed.{at-some, some-at, unbound-at, Framed, factAt, body-there, body-is, head-is, search}
+use Rattle.rules.proofs.Framed.{at-some, some-at, Framed, factAt, body-there, body-is, head-is, tests-of, tests-in, search}
 
 module _ {𝒜 : List Assertion} {F : Frame} {a : Assertion} (S : Framed 𝒜 F a) where
   abbrev W : World
@@ -75,6 +77,9 @@ module _ {𝒜 : List Assertion} {F : Frame} {a : Assertion} (S : Framed 𝒜 F 
       let i = at-some noFact (f .0) (a .body) (f .1) in
       subst (Within (Rule W 𝒜) n) (ap (λ (f : Fact Expr). said (a .issuer) d (mapFact (bound θ) f)) (sym (i .2)) ∙ f .2) (h (i .0) (i .1))
 
+  abbrev plan : ℕ → Plan
+  plan skip = F .pattern .plan skip
+
   module _ {n : ℕ} {t : L} (H : Held (Rule W 𝒜) key n t) where
     ground : (q : List ℕ) → In q t → Ground (factOf q)
     ground q m =
@@ -82,84 +87,69 @@ module _ {𝒜 : List Assertion} {F : Frame} {a : Assertion} (S : Framed 𝒜 F 
         let fine = good W 𝒜 (S .heads) (s .1) (derived (Rule W 𝒜) (s .0) (s .1) (s .3)) in
         subst (λ (r : List ℕ). Ground (factOf r)) (sym (s .2)) (below-ground (key (s .1)) (key-below W (s .1) fine))
 
-    abbrev Sr : Search F (W .constants) ks hold t
+    abbrev Sr : Search F (W .constants) ks t
     Sr = search S t ground
 
     -- a body fact that is met is of rounds 1 to n
-    met-old : (θ : List ℕ) (i : ℕ) → i < length (a .body) → Met Sr i θ → Within (Rule W 𝒜) n (factAt S θ i)
+    met-old : (θ : List ℕ) (i : ℕ) → i < length (a .body) → Met Sr (bodyFact i) θ → Within (Rule W 𝒜) n (factAt S θ i)
+    unfolding sourceOf
     met-old θ i h m =
         let f : Fact Expr = getD (a .body) i noFact in
         let arity = arity-map (W .verbs) θ f (S .proper .arities f (some-at noFact (a .body) i h)) in
-        within (told (S .heads)) H (m .0) (m .1) (factAt S θ i) arity (sym (m .3) ∙ body-is S θ i h)
+        within (told (S .heads)) H (m .0) (m .1 .among) (factAt S θ i) arity (sym (m .1 .row) ∙ body-is S θ i h)
 
     -- the entries of the facts before the given one are not of the round `last`
     abbrev pub Earlier : List ℕ → Type 0
     Earlier θ = (i : ℕ) → i < F .skip → (q : List ℕ) → In q t → factOf q ≡ key (factAt S θ i) → stampOf q ≢ F .last
 
     -- and then the other way round
-    old-met : {θ : List ℕ} → Applies n θ → Earlier θ → (i : ℕ) → i < bodies → Met Sr i θ
+    old-met : {θ : List ℕ} → Applies n θ → Earlier θ → (i : ℕ) → i < bodies → Met Sr (bodyFact i) θ
+    unfolding sourceOf
     old-met {θ} A older i b =
         let h : i < length (a .body) = omega (arith, S .laid .bodies) in
         let m = H .whole (factAt S θ i) (A .body (factAt S θ i) (body-there S θ i h)) in
         let q : List ℕ = m .0 ∷ key (factAt S θ i) in
-        (q, m .1, not-new (F .skip) (F .last) i q (λ l. older i l q (m .1) refl), body-is S θ i h)
+        (q, record { among = m .1; late = not-new (F .skip) (F .last) i q (λ l. older i l q (m .1) refl); row = body-is S θ i h })
 
-    -- ---- what is left: all but the fact that is given
+    -- ---- the fact that is given
 
-    abbrev rest : ℕ
-    rest = without (firstFacts bodies) (F .skip)
-
-    abbrev search-rest : List ℕ → L
-    search-rest θ = condOf F t (bodies - 1) rest θ
+    abbrev given-row : List Expr
+    given-row = bodyRow F (F .skip)
 
     abbrev first-match : List ℕ → Option (List ℕ)
-    first-match q = fits unbound8 (bodyRow F (F .skip)) q
+    first-match q = fits (may F) unbound8 given-row q
 
-    few-bodies : bodies ≤ 4
-    few-bodies = omega (arith, S .laid .few, S .laid .bodies)
+    given-fits : {q τ : List ℕ} → In q t → F .skip < bodies → first-match (factOf q) ≡ some τ → Fitted (may F) given-row (factOf q) unbound8 τ
+    given-fits {q} m h e = fits-of (may F) given-row (factOf q) (Sr .rows (F .skip) h) (ground q m) e
 
-    given-less : F .skip < bodies → Less (firstFacts bodies) (F .skip)
-    given-less h =
-        let s : F .skip < 4 = omega (arith, few-bodies) in
-        let f = firsts bodies few-bodies in
-        one-less (firstFacts bodies) (F .skip) (f .small) s (f .are (F .skip) s ∙ lt-ltb (F .skip) bodies h)
-
-    given-left : F .skip < bodies → Left F (bodies - 1) rest
-    given-left h =
-        let l = given-less h in
-        let f = firsts bodies few-bodies in
-        record {
-          small = l .small;
-          many = omega (arith, l .fewer, f .many);
-          there = λ i k e. ltb-true i bodies (sym (f .are i k) ∙ still (firstFacts bodies) (F .skip) i l k e);
-        }
-
-    -- every body fact is the given one or left
-    every : (θ : List ℕ) → F .skip < bodies → Met Sr (F .skip) θ → MetAll Sr rest θ → (i : ℕ) → i < length (a .body) → Met Sr i θ
-    every θ h g ms i l = go (ℕ-discrete (F .skip) i)
-      where
-        go : Dec (F .skip ≡ i) → Met Sr i θ
-        go (yes e) = subst (λ (j : ℕ). Met Sr j θ) e g
-        go (no e) =
-            let b : i < bodies = omega (arith, S .laid .bodies) in
-            let four : i < 4 = omega (arith, few-bodies) in
-            ms i four (other (firstFacts bodies) (F .skip) i (given-less h) four (firsts bodies few-bodies .are i four ∙ lt-ltb i bodies b) e)
+    given-marks : {q τ : List ℕ} → In q t → F .skip < bodies → Fitted (may F) given-row (factOf q) unbound8 τ → Marks (given (F .pattern) (F .skip)) τ
+    given-marks {q} {τ} m h f =
+        rw (lt-ltb (F .skip) bodies h) (marks-row (F .pattern .body (F .skip)) (record { of = λ v z. unbound-at v })
+        (λ v k. row-bound given-row (factOf q) τ (ground q m) (f .is) v (List·Memᴰ·tail (List·Memᴰ·tail k))))
 
     pub cond-gives : (q c : List ℕ) → In q t → In c (condAt F t (factOf q)) → Gives n c
-    unfolding condAt
+    unfolding condAt sourceOf
     cond-gives q c mq m = go (ltb (F .skip) bodies) refl m
       where
-        go : (b : Bool) → ltb (F .skip) bodies ≡ b → In c (cond b (follow (first-match (factOf q)) search-rest) []) → Gives n c
+        go : (b : Bool) → ltb (F .skip) bodies ≡ b → In c (cond b (follow (first-match (factOf q)) (searchBy F t (plan (F .skip)))) []) → Gives n c
         go false e m = absurd (List·Memᴰ·not-nil m)
         go true e m =
             let h : F .skip < bodies = ltb-true (F .skip) bodies e in
-            let f = follow-of (first-match (factOf q)) search-rest c m in
-            let x : Try Sr (F .skip) unbound8 q = record { there = h; among = mq; long = refl } in
-            let i = cond-of Sr (bodies - 1) (f .0) (given-left h) (match-long Sr x (f .0) (f .1)) (f .2) in
-            let g = match-of Sr x (f .0) (i .0) (f .1) (i .1 .on .under) in
-            let given : Met Sr (F .skip) (i .0) = (q, mq, not-new (F .skip) (F .last) (F .skip) q (λ l. absurd (omega arith)), g .1) in
-            let body = body-by n (i .0) (λ j k. met-old (i .0) j k (every (i .0) h given (i .1 .on .met) j k)) in
-            head-gives {n = n} (record { binds = i .1 .on .binds; passes = i .1 .passes; body = body }) (i .1 .is)
+            let τ = follow-of (first-match (factOf q)) (searchBy F t (plan (F .skip))) c m in
+            let f = given-fits mq h (τ .1) in
+            let w = plan-of Sr (S .plans (F .skip) (inr h)) (given-marks mq h f) (fair-on (Sr .over) f (fair-start (Sr .over))) (τ .2) in
+            let ρ : List ℕ = w .0 in
+            let row = row-on given-row (factOf q) (ground q mq) (w .1 .under) (f .is) in
+            let skipped : Met Sr (bodyFact (F .skip)) ρ =
+            (q, record { among = mq; late = not-new (F .skip) (F .last) (F .skip) q (λ l. absurd (omega arith)); row = row }) in
+            let body = body-by n ρ (λ i l. met-old ρ i l (every i (omega (arith, S .laid .bodies)) (w .1 .met i) skipped (ℕ-discrete (F .skip) i))) in
+            head-gives {n = n} (record { binds = w .1 .binds; passes = tests-in S ρ (w .1 .pass); body = body }) (w .1 .is)
+          where
+            -- the given one or another
+            every : {ρ : List ℕ} (i : ℕ) → i < bodies → (i < bodies → i ≢ F .skip → Met Sr (bodyFact i) ρ) → Met Sr (bodyFact (F .skip)) ρ → Dec (F .skip ≡ i)
+                → Met Sr (bodyFact i) ρ
+            every {ρ} i h met given (yes e) = subst (λ (j : ℕ). Met Sr (bodyFact j) ρ) e given
+            every i h met given (no e) = met h (λ z. e (sym z))
 
     pub cond-given : {θ : List ℕ} → F .skip < length (a .body) → Applies n θ → Earlier θ
         → In (F .round ∷ key (headOf a d θ)) (condAt F t (key (factAt S θ (F .skip))))
@@ -168,37 +158,43 @@ module _ {𝒜 : List Assertion} {F : Frame} {a : Assertion} (S : Framed 𝒜 F 
         let b : F .skip < bodies = omega (arith, S .laid .bodies) in
         let w = H .whole (factAt S θ (F .skip)) (A .body (factAt S θ (F .skip)) (body-there S θ (F .skip) h)) in
         let q : List ℕ = w .0 ∷ key (factAt S θ (F .skip)) in
-        let x : Try Sr (F .skip) unbound8 q = record { there = b; among = w .1; long = refl } in
-        let f = match-in Sr x θ (λ v. inl (unbound-at v)) (body-is S θ (F .skip) h) in
-        let left = given-left b in
-        let on : Onward Sr rest (f .0) θ = record { binds = A .binds; under = f .2; met = λ i k e. old-met A older i (left .there i k e) } in
-        let i : Instance Sr rest (f .0) (headEntry F θ) θ = record { on = on; passes = A .passes; is = refl } in
-        let found =
-        follow-in (first-match (factOf q)) search-rest (headEntry F θ) (f .0) (f .1) (cond-in Sr (bodies - 1) left (match-long Sr x (f .0) (f .1)) i) in
-        rw (lt-ltb (F .skip) bodies b) (subst (λ (c : List ℕ). In c (follow (first-match (factOf q)) search-rest)) (head-is S θ (A .binds)) found)
+        let is = body-is S θ (F .skip) h in
+        let start : Under unbound8 θ = record { of = λ v. inl (unbound-at v) } in
+        let τ = fits-some (may F) given-row (factOf q) unbound8 θ (Sr .rows (F .skip) b) start is (λ v l. stands (Sr .over) θ (A .binds) v l) in
+        let f = given-fits (w .1) b (τ .1) in
+        let fair = fair-on (Sr .over) f (fair-start (Sr .over)) in
+        let valid = S .plans (F .skip) (inr b) in
+        let found = plan-in Sr valid (given-marks (w .1) b f) fair (A .binds) (f .least θ start is) (old-met A older) (tests-of S θ (A .passes)) in
+        let there = follow-in (first-match (factOf q)) (searchBy F t (plan (F .skip))) (headEntry F θ) (τ .0) (τ .1) found in
+        rw (lt-ltb (F .skip) bodies b)
+        (subst (λ (c : List ℕ). In c (follow (first-match (factOf q)) (searchBy F t (plan (F .skip))))) (head-is S θ (A .binds)) there)
 
   -- ---- an assertion without a body
 
-  abbrev S0 : Search F (W .constants) ks hold []
+  abbrev S0 : Search F (W .constants) ks []
   S0 = search S [] (λ q h. absurd (List·Memᴰ·not-nil h))
 
-  none : Left F 0 0
-  none = record { small = omega arith; many = firsts 0 (omega arith) .many; there = λ i h e. absurd (none-left 0 (firsts 0 (omega arith) .many) i h e) }
+  -- nothing is bound before
+  none-marks : bodies ≡ 0 → Marks (given (F .pattern) 0) unbound8
+  none-marks z = rw (le-ltb 0 bodies (omega arith)) (record { of = λ v e. e })
 
   pub first-gives : (n : ℕ) (c : List ℕ) → In c (condFirst F) → Gives n c
   unfolding condFirst
   first-gives n c m = go (eqb bodies 0) refl m
     where
-      go : (b : Bool) → eqb bodies 0 ≡ b → In c (cond b (condOf F [] 0 0 unbound8) []) → Gives n c
+      go : (b : Bool) → eqb bodies 0 ≡ b → In c (cond b (searchBy F [] (plan 0) unbound8) []) → Gives n c
       go false e m = absurd (List·Memᴰ·not-nil m)
       go true e m =
-          let i = cond-of S0 0 unbound8 none refl m in
-          let body = body-by n (i .0) (λ j h. absurd (omega (arith, S .laid .bodies, eqb-true bodies 0 e))) in
-          head-gives {n = n} (record { binds = i .1 .on .binds; passes = i .1 .passes; body = body }) (i .1 .is)
+          let z : bodies ≡ 0 = eqb-true bodies 0 e in
+          let w = plan-of S0 (S .plans 0 (inl refl)) (none-marks z) (fair-start (S0 .over)) m in
+          let body = body-by n (w .0) (λ j h. absurd (omega (arith, S .laid .bodies))) in
+          head-gives {n = n} (record { binds = w .1 .binds; passes = tests-in S (w .0) (w .1 .pass); body = body }) (w .1 .is)
 
   pub first-given : (n : ℕ) {θ : List ℕ} → length (a .body) ≡ 0 → Applies n θ → In (F .round ∷ key (headOf a d θ)) (condFirst F)
   unfolding condFirst
   first-given n {θ} z A =
-      let on : Onward S0 0 unbound8 θ = record { binds = A .binds; under = λ v. inl (unbound-at v); met = λ i h e. absurd (none-left 0 (none .many) i h e) } in
-      let i : Instance S0 0 unbound8 (headEntry F θ) θ = record { on = on; passes = A .passes; is = refl } in
-      rw (eq-eqb bodies 0 (S .laid .bodies ∙ z)) (subst (λ (c : List ℕ). In c (condOf F [] 0 0 unbound8)) (head-is S θ (A .binds)) (cond-in S0 0 none refl i))
+      let e : bodies ≡ 0 = S .laid .bodies ∙ z in
+      let start : Under unbound8 θ = record { of = λ v. inl (unbound-at v) } in
+      let valid = S .plans 0 (inl refl) in
+      let found = plan-in S0 valid (none-marks e) (fair-start (S0 .over)) (A .binds) start (λ i h. absurd (omega arith)) (tests-of S θ (A .passes)) in
+      rw (eq-eqb bodies 0 e) (subst (λ (c : List ℕ). In c (searchBy F [] (plan 0) unbound8)) (head-is S θ (A .binds)) found)

@@ -1,6 +1,7 @@
--- A frame of a laid-out assertion is over the model: its kinds and constraints are the assertion's, its head and body rows are the places of the instances.
+-- A frame of a laid-out assertion is over the model: its kinds and constraints are the assertion's, its head and body rows are the places of the instances,
+-- and its plan is right.
 use mathlib.Core.Path.{_≡_, refl, sym, ap, ap₂, subst, _∙_}
-use mathlib.Core.Logic.{⊎-elim, _≢_}
+use mathlib.Core.Logic.{_⊎_, ⊎-elim}
 use mathlib.Core.Bool.{Bool, true}
 use mathlib.Core.List.{List, [], _∷_, map, List·Memᴰ, List·Memᴰ·head, List·Memᴰ·tail, List·Memᴰ·not-nil, List·Memᴰ·cases-cons, Memᴰ·map}
 use Prim.Native.Nat.{ℕ, zero, suc, _≤_, _<_}
@@ -8,30 +9,28 @@ use native.Mathlib.Nat.{mod-eq-of-lt, not-suc-le-zero}
 use native.Mathlib.Omega.{arith}
 use lib.ListN.{length, getD, length-map}
 use lib.Dec.{T}
-use Rattle.model.specs.Limits.{unbound}
 use Rattle.model.specs.Lists.{all}
-use Rattle.model.specs.Syntax.{Expr, con, Fact, mapFact, Constraint, Constant, Assertion, World, Said, said}
+use Rattle.model.specs.Syntax.{Expr, con, Fact, mapFact, Constraint, Constant, Assertion, World, Said, said, varsTest}
 use Rattle.model.specs.Kinds.{variables}
-use Rattle.model.specs.Values.{bound, choices, kindsOf, bindingsOf, passes}
+use Rattle.model.specs.Values.{bound, kindsOf, bindingsOf, passes}
 use Rattle.model.specs.Rules as R
 use Rattle.model.specs.Rules.{depths, headOf, bodyOf}
 use Rattle.model.specs.Records.{key, Fitting}
 use Rattle.model.proofs.ListFacts.{all-of, all-in}
-use Rattle.model.proofs.BindingFacts.{at-variable, bindings-of}
+use Rattle.model.proofs.BindingFacts.{at-variable}
 use Rattle.model.proofs.RecordFacts.{arity-map}
 use Rattle.fact.specs.Places.{factOf}
 use Rattle.rules.specs.Rows.{rowOf, noFact}
-use Rattle.rules.specs.Matching.{at}
-use Rattle.rules.specs.Patterns.{Frame}
-use Rattle.rules.specs.Cond.{field, headEntry, bodyRow, unbound8}
+use Rattle.rules.specs.Patterns.{Pattern, Frame}
+use Rattle.rules.specs.Cond.{field, headEntry, bodyRow}
 use Rattle.rules.specs.Proper.{Proper, HasAll, Below, Heads}
 use Rattle.rules.specs.Laid.{noTest, Laid}
+use Rattle.rules.specs.Valid.{Valid}
 use Rattle.rules.proofs.MatchFacts.{Ground}
-use Rattle.rules.proofs.KindFacts.{choice-below}
 use Rattle.rules.proofs.ExtendFacts.{L, In, T-true, Over}
-use Rattle.rules.proofs.TestFacts.{early-upto, late-upto, ends-upto, told-in}
 use Rattle.rules.proofs.RowFacts.{row-key}
-use Rattle.rules.proofs.CondFacts.{Search}
+use Rattle.rules.proofs.StepFacts.{Search}
+use Rattle.rules.proofs.LeftFacts.{Sound}
 use Rattle.rules.proofs.Good.{Good, depth-small, key-below, key-length}
 
 -- ---- elements by their numbers
@@ -47,21 +46,30 @@ some-at d [] i h = absurd (not-suc-le-zero h)
 some-at d (x ∷ l) zero h = List·Memᴰ·head refl
 some-at d (x ∷ l) (suc i) h = List·Memᴰ·tail (some-at d l i (omega arith))
 
-pub unbound-at : (v : ℕ) → at unbound8 v ≡ unbound
-unbound-at zero = refl
-unbound-at (suc zero) = refl
-unbound-at (suc (suc zero)) = refl
-unbound-at (suc (suc (suc zero))) = refl
-unbound-at (suc (suc (suc (suc zero)))) = refl
-unbound-at (suc (suc (suc (suc (suc zero))))) = refl
-unbound-at (suc (suc (suc (suc (suc (suc zero)))))) = refl
-unbound-at (suc (suc (suc (suc (suc (suc (suc zero))))))) = refl
-unbound-at (suc (suc (suc (suc (suc (suc (suc (suc v)))))))) = refl
-
 -- constants below 255 stand in a fact as they are
 fields : (θ : List ℕ) (es : List Expr) → Below (map (bound θ) es) → map (field θ) es ≡ map (bound θ) es
 fields θ [] b = refl
 fields θ (e ∷ es) b = ap₂ _∷_ (mod-eq-of-lt (let h : bound θ e < 255 = b .0 in omega arith)) (fields θ es (b .1))
+
+-- a laid-out assertion is one that has a plan which is right
+pub sound : {W : World} {a : Assertion} {p : Pattern} → Proper W a → Laid W a p → Sound p
+sound {W} {a} {p} P L = record {
+  few = omega (arith, L .bodies, L .few);
+  head = omega (
+    arith,
+    ap length (L .head),
+    length-map (rowOf (a .head)) (bound []),
+    ap length (row-key [] 0 0 (a .head)),
+    key-length (said 0 0 (mapFact (bound []) (a .head))) (P .heads .shape []),
+  );
+  rows = λ i h.
+      let l : i < length (a .body) = omega (arith, L .bodies) in
+      subst (HasAll 8) (sym (L .body i l)) (P .rows (getD (a .body) i noFact) (some-at noFact (a .body) i l));
+  tests = λ i h v m.
+      let l : i < length (a .tests) = omega (arith, L .tests) in
+      let o = P .occurs (getD (a .tests) i noTest) (some-at noTest (a .tests) i l) v (subst (λ (c : Constraint). List·Memᴰ v (varsTest c)) (L .test i l) m) in
+      (o .0, λ z. o .1 (sym (L .kinds v (o .0)) ∙ z));
+}
 
 -- The frame F is of the assertion a, one of those that count, at one of the depths; what is asked of assertions holds.
 pub record Framed (𝒜 : List Assertion) (F : Frame) (a : Assertion) : Type 0 where
@@ -72,6 +80,7 @@ pub record Framed (𝒜 : List Assertion) (F : Frame) (a : Assertion) : Type 0 w
   pub laid : Laid (F .world) a (F .pattern)
   pub counts : List·Memᴰ a 𝒜
   pub depth : List·Memᴰ (F .depth) depths
+  pub plans : (skip : ℕ) → (skip ≡ 0) ⊎ (skip < F .pattern .bodies) → Valid (F .pattern) skip (F .pattern .plan skip)
 
 module _ {𝒜 : List Assertion} {F : Frame} {a : Assertion} (S : Framed 𝒜 F a) where
   abbrev pub W : World
@@ -94,39 +103,20 @@ module _ {𝒜 : List Assertion} {F : Frame} {a : Assertion} (S : Framed 𝒜 F 
 
   -- ---- the frame is over the model's
 
-  -- a variable that has a kind is bound
-  bound-kind : (θ : List ℕ) → Binding θ → (v : ℕ) → (v < 8) × (kindsOf W a v ≢ 0) → at θ v ≢ unbound
-  bound-kind θ m v (l, n) z =
-      go (kindsOf W a v) n (subst (λ (k : ℕ). List·Memᴰ (at θ v) (choices (W .constants) k)) (at-variable (kindsOf W a) v l)
-      (bindings-of (W .constants) ks θ m .1 v (omega arith)))
-    where
-      go : (k : ℕ) → k ≢ 0 → List·Memᴰ (at θ v) (choices (W .constants) k) → ⊥
-      go zero n m = n refl
-      go (suc k) n m = let h = choice-below (W .constants) (S .few) k (at θ v) m in omega (arith, z, S .few)
+  over : Over F (W .constants) ks
+  over = record { few = S .few; constants = S .kinds; eight = refl; kinds = λ v l. S .laid .kinds v l ∙ sym (at-variable (kindsOf W a) v l) }
 
-  over : Over F (W .constants) ks hold
-  over = record {
-    few = S .few;
-    constants = S .kinds;
-    eight = refl;
-    kinds = λ v l. S .laid .kinds v l ∙ sym (at-variable (kindsOf W a) v l);
-    early = λ τ θ l u m e. early-upto F (F .pattern .tests) τ θ u (λ i h. T-true _ (all-of (passes W θ) (subst T (sym e) tt) (here i h)));
-    late =
-        λ τ θ l u m p t. T-true _ (all-in (passes W θ) (a .tests)
-        (λ c h. late c θ (at-some noTest c (a .tests) h) (late-upto F (F .pattern .tests) τ θ u p t)));
-    ends =
-        λ θ m. ends-upto F (F .pattern .tests) θ (λ i h. told-in θ (F .pattern .test i)
-        (λ v k. bound-kind θ m v (S .proper .occurs (F .pattern .test i) (here i h) v k)));
-  }
-    where
-      here : (i : ℕ) → i < F .pattern .tests → List·Memᴰ (F .pattern .test i) (a .tests)
-      here i h =
-          let l : i < length (a .tests) = omega (arith, S .laid .tests) in
-          subst (λ (c : Constraint). List·Memᴰ c (a .tests)) (sym (S .laid .test i l)) (some-at noTest (a .tests) i l)
+  -- its constraints are the assertion's
+  pub tests-of : (θ : List ℕ) → hold θ ≡ true → (i : ℕ) → i < F .pattern .tests → passes W θ (F .pattern .test i) ≡ true
+  tests-of θ e i h =
+      let l : i < length (a .tests) = omega (arith, S .laid .tests) in
+      ap (passes W θ) (S .laid .test i l) ∙ T-true _ (all-of (passes W θ) (subst T (sym e) tt) (some-at noTest (a .tests) i l))
 
-      late : (c : Constraint) (θ : List ℕ) → (i : ℕ) × (i < length (a .tests)) × (c ≡ getD (a .tests) i noTest)
-          → ((i : ℕ) → i < F .pattern .tests → passes W θ (F .pattern .test i) ≡ true) → T (passes W θ c)
-      late c θ i h =
+  pub tests-in : (θ : List ℕ) → ((i : ℕ) → i < F .pattern .tests → passes W θ (F .pattern .test i) ≡ true) → hold θ ≡ true
+  tests-in θ h = T-true _ (all-in (passes W θ) (a .tests) (λ c m. one c (at-some noTest c (a .tests) m)))
+    where
+      one : (c : Constraint) → (i : ℕ) × (i < length (a .tests)) × (c ≡ getD (a .tests) i noTest) → T (passes W θ c)
+      one c i =
           let l : i .0 < length (a .tests) = i .1 in
           subst T (sym (ap (passes W θ) (i .2 ∙ sym (S .laid .test (i .0) l)) ∙ h (i .0) (omega (arith, S .laid .tests)))) tt
 
@@ -148,9 +138,6 @@ module _ {𝒜 : List Assertion} {F : Frame} {a : Assertion} (S : Framed 𝒜 F 
   head-bound : (θ : List ℕ) → map (bound θ) (con (a .issuer) ∷ con d ∷ F .pattern .head) ≡ key (headOf a d θ)
   head-bound θ = ap (λ (r : List Expr). map (bound θ) (con (a .issuer) ∷ con d ∷ r)) (S .laid .head) ∙ row-key θ (a .issuer) d (a .head)
 
-  head-long : length (F .pattern .head) ≤ 12
-  head-long = omega (arith, length-map (F .pattern .head) (bound []), ap length (head-bound []), key-length (headOf a d []) (S .proper .heads .shape []))
-
   -- the entry of the head
   pub head-is : (θ : List ℕ) → Binding θ → headEntry F θ ≡ F .round ∷ key (headOf a d θ)
   unfolding headEntry
@@ -162,8 +149,8 @@ module _ {𝒜 : List Assertion} {F : Frame} {a : Assertion} (S : Framed 𝒜 F 
       let b : Below (map (bound θ) (con (a .issuer) ∷ con d ∷ F .pattern .head)) = subst Below (sym (head-bound θ)) (key-below W (headOf a d θ) fine) in
       ap₂ (λ (i : ℕ) (l : List ℕ). F .round ∷ i ∷ d ∷ l) (S .laid .issuer) (fields θ (F .pattern .head) (b .1 .1)) ∙ ap (_∷_ (F .round)) (head-bound θ)
 
-  pub search : (t : L) → ((q : List ℕ) → In q t → Ground (factOf q)) → Search F (W .constants) ks hold t
-  search t ground = record { over = over; head = head-long; rows = rows; ground = ground }
+  pub search : (t : L) → ((q : List ℕ) → In q t → Ground (factOf q)) → Search F (W .constants) ks t
+  search t ground = record { over = over; rows = rows; ground = ground }
     where
       rows : (i : ℕ) → i < bodies → HasAll 8 (bodyRow F i)
       rows i h =

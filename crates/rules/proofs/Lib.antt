@@ -1,10 +1,14 @@
 pub mod MatchFacts
 pub mod KindFacts
 pub mod ExtendFacts
-pub mod Passes
 pub mod TestFacts
 pub mod RowFacts
-pub mod Masks
+pub mod Following
+pub mod StepFacts
+pub mod MarkFacts
+pub mod LeftFacts
+pub mod ModeFacts
+pub mod PlanFacts
 pub mod CondFacts
 pub mod SemiNaive
 pub mod RoundLaw

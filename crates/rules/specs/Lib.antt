@@ -1,7 +1,10 @@
 pub mod Rows
 pub mod Matching
+pub mod Plan
 pub mod Patterns
 pub mod Cond
+pub mod Valid
+pub mod Planning
 pub mod Uses
 pub mod Rounds
 pub mod Proper
