@@ -3,7 +3,7 @@ use mathlib.Core.List.{List, [], _∷_, _++_}
 use mathlib.Core.Bool.{Bool, true, false}
 use Prim.Native.Nat.{ℕ, zero, suc, _+_}
 use lib.Dec.{T}
-use Rattle.model.specs.Limits.{maxDepth}
+use Rattle.model.specs.Limits.{maxDepth, version}
 use Rattle.model.specs.Lists.{member}
 use Rattle.model.specs.Syntax.{Assertion, Constant, Verb, Request}
 use Rattle.model.specs.Kinds.{Demands}
@@ -52,9 +52,9 @@ module _ (ns : List ℕ) where
   unfolding ended
   by-end s x p t = by-choice _ _ _ tt t
 
-  by-head : {A : Type 0} (s : List ℕ) (r : Reading A) → T (member 1 ns) → T (member 2 ns) → RefusesBy ns r → RefusesBy ns (headed s r)
+  by-head : {A : Type 0} (latest : ℕ) (s : List ℕ) (r : Reading A) → T (member 1 ns) → T (member 2 ns) → RefusesBy ns r → RefusesBy ns (headed latest s r)
   unfolding headed
-  by-head s r t u h = by-choice _ _ _ (by-choice _ _ _ h u) t
+  by-head latest s r t u h = by-choice _ _ _ (by-choice _ _ _ h u) t
 
 -- ---- the policy
 
@@ -82,7 +82,7 @@ item-numbers cs vs s before at = assertion-numbers (assertionForm vs s at) cs vs
 pub policy-numbers : (s : List ℕ) → RefusesBy ofPolicy (readPolicy s)
 unfolding computedPolicy constantsFrom verbsFrom assertionsFrom
 policy-numbers s = rw (policy-is s) (
-    by-head ofPolicy s _ tt tt
+    by-head ofPolicy version s _ tt tt
     (by-turns ofPolicy _ _ (by-list ofPolicy s _ _ _ tt (constant-numbers s) _)
     (λ cs e. by-turns ofPolicy _ _ (by-list ofPolicy s _ _ _ tt (verb-numbers s) e)
     (λ vs e. by-turns ofPolicy _ _ (by-list ofPolicy s _ _ _ tt (item-numbers (contents cs) (contents vs) s) e)
@@ -138,7 +138,7 @@ module _ (cs : List Constant) (vs : List Verb) (s : List ℕ) where
   pub request-numbers : RefusesBy ofRequest (readRequest cs vs s)
   unfolding computedRequest requestFrom
   request-numbers = rw (request-is cs vs s) (
-      by-head ofRequest s _ tt tt
+      by-head ofRequest version s _ tt tt
       (by-choice ofRequest _ _ _ tt (by-choice ofRequest _ _ _ tt
       (by-turns ofRequest _ _ (nodes-numbers maxDepth _ _) (λ D p. by-turns ofRequest _ _ (by-end ofRequest s _ p tt) safe-numbers))))
       )

@@ -41,7 +41,7 @@ readings = rows .2
 
 abbrev accepted : Reading Accepted → Accepted
 accepted (got A e) = A
-accepted (refused n p) = record { constants = []; verbs = []; assertions = [] }
+accepted (refused n p) = record { version = 0; constants = []; verbs = []; assertions = [] }
 
 abbrev asks : Reading Request → Request
 asks (got q e) = q

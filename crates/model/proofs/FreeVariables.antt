@@ -16,7 +16,7 @@ use Rattle.model.specs.Requests.{free, bindingsIn}
 use Rattle.model.specs.Safety.{provided, onward, known, knownAll, knownAny, binders, isSafe, safeRequest}
 use Rattle.model.proofs.SafetyRules.{provided-of, onward-of, isSafe-of}
 use Rattle.model.proofs.CheckedNodes.{Some, Sound, SoundAll, node-checked}
-use Rattle.model.specs.Limits.{unbound}
+use Rattle.model.specs.Limits.{unbound, version}
 use Rattle.model.specs.Kinds.{kinds, kindAt, inPlace, comparable}
 use Rattle.model.specs.Kinds.{Demands, noDemands, demandsIn, demandsAll, places, pair, paramKinds, fitting, kindOf, variables}
 use Rattle.model.specs.Forms.{isKind}
@@ -150,7 +150,7 @@ pub record Asked (cs : List Constant) (vs : List Verb) (n : Node) : Type 0 where
 asked : (cs : List Constant) (vs : List Verb) (s : List ℕ) (q : Request) (e : ℕ) → readRequest cs vs s ≡ got q e → Asked cs vs (q .node)
 unfolding computedRequest requestFrom safely
 asked cs vs s q e h =
-    let a = choose-no _ _ 3 5 q e (choose-no _ _ 3 5 q e (headed-got s _ q e (sym (request-is cs vs s) ∙ h)) .1) .1 in
+    let a = choose-no _ _ 3 5 q e (choose-no _ _ 3 5 q e (headed-got version s _ q e (sym (request-is cs vs s) ∙ h)) .1) .1 in
     let b = andThen-got _ _ q e a in
     let c = andThen-got _ _ q e (b .3) in
     let d = choose-yes _ _ 7 9 q e (c .3) in

@@ -81,10 +81,11 @@ module _ {A B : Type 0} where
       go (refused n p) = refl
 
 module _ {A : Type 0} where
-  pub slice-is : (s : List ℕ) (r : Reader A) (t : Reading A) → r 0 (length s) headerBytes ≡ t → slice s r ≡ headed s t
+  pub slice-is : (latest : ℕ) (s : List ℕ) (r : Reader A) (t : Reading A) → r 0 (length s) headerBytes ≡ t → slice s latest r ≡ headed latest s t
   unfolding slice headed versionThere lengthRight
-  slice-is s r t h = rw (
-    both-and (ltb 0 (length s)) (eqb (byteAt s 0) version),
+  slice-is latest s r t h = rw (
+    both-and (leb 1 (byteAt s 0)) (leb (byteAt s 0) latest),
+    both-and (ltb 0 (length s)) (leb 1 (byteAt s 0) && leb (byteAt s 0) latest),
     both-and (leb headerBytes (length s)) (eqb (u32At s lengthAt) (length s - headerBytes)),
     h,
   )
@@ -101,9 +102,9 @@ module _ (s : List ℕ) where
   -- the reader in one walk is the computed one
   pub policy-is : readPolicy s ≡ computedPolicy s
   unfolding readPolicy computedPolicy constantsFrom verbsFrom assertionsFrom
-  policy-is = slice-is s _ (constantsFrom s)
+  policy-is = slice-is version s _ (constantsFrom s)
       (then-same _ _ (list-is s (constantItem s) (policies.constantItem s) (λ earlier p. constantItem-is s p earlier) 1 maxConstants 0 headerBytes)
       (λ cs p. then-same _ _ (list-is s (verbItem s) (policies.verbItem s) (λ earlier p. verbItem-is s p earlier) 0 maxVerbs 0 p)
       (λ vs p. then-same _ _ (list-is s (assertionItem s (contents cs) (contents vs)) (policies.assertionItem (contents cs) (contents vs) s)
       (λ earlier p. assertionItem-is s (contents cs) (contents vs) p earlier) 0 maxAssertions 0 p)
-      (λ 𝒜 p. ended-is (record { constants = cs; verbs = vs; assertions = 𝒜 }) 0 p))))
+      (λ 𝒜 p. ended-is (record { version = byteAt s 0; constants = cs; verbs = vs; assertions = 𝒜 }) 0 p))))

@@ -8,7 +8,7 @@ use native.Mathlib.Omega.{arith}
 use lib.ListN.{length, getD, length-map, length-append}
 use lib.Dec.{T, eqb, ltb, eqb→eq}
 use borrow.Author.Tests.{ltb-false}
-use Rattle.model.specs.Limits.{principal, maxConstants, headerBytes}
+use Rattle.model.specs.Limits.{version, principal, maxConstants, headerBytes}
 use Rattle.model.specs.Lists.{all}
 use Rattle.model.specs.Syntax.{Expr, con, var, today, Fact, flat, canSay, subject, Assertion, Constant, Verb, Policy}
 use Rattle.model.specs.Kinds.{Demands, kindAt, places, demandsOf, inPlace, comparable, meets, kindsFor, choicesOf, fitting, fitsAssertion}
@@ -138,9 +138,9 @@ item-fine cs vs s before at a e r = go (assertionForm vs s at) r
     go noVerb h = absurd (never 5 at e a h)
 
 module _ {A : Type 0} where
-  pub headed-got : (s : List ℕ) (r : Reading A) (x : A) (e : ℕ) → headed s r ≡ got x e → r ≡ got x e
+  pub headed-got : (latest : ℕ) (s : List ℕ) (r : Reading A) (x : A) (e : ℕ) → headed latest s r ≡ got x e → r ≡ got x e
   unfolding headed
-  headed-got s r x e h = choose-yes _ _ 2 1 x e (choose-yes _ _ 1 0 x e h .1) .1
+  headed-got latest s r x e h = choose-yes _ _ 2 1 x e (choose-yes _ _ 1 0 x e h .1) .1
 
   pub ended-got : (s : List ℕ) (x y : A) (p e : ℕ) → ended s x p ≡ got y e → x ≡ y
   unfolding ended
@@ -151,7 +151,7 @@ pub accepted-fine : (s : List ℕ) (A : Accepted) (e : ℕ) → readPolicy s ≡
     → (a : Assertion) → List·Memᴰ a (policyOf A .assertions) → Fine (policyOf A .constants) (policyOf A .verbs) a
 unfolding computedPolicy constantsFrom verbsFrom assertionsFrom
 accepted-fine s A e r =
-    let c = andThen-got _ _ A e (headed-got s _ A e (sym (policy-is s) ∙ r)) in
+    let c = andThen-got _ _ A e (headed-got version s _ A e (sym (policy-is s) ∙ r)) in
     let v = andThen-got _ _ A e (c .3) in
     let a = andThen-got _ _ A e (v .3) in
     let q = ended-got s _ A (a .1) e (a .3) in
@@ -167,7 +167,7 @@ policy-fine policy P h = subst (λ (P : Policy). (a : Assertion) → List·Mem�
 pub accepted-count : (s : List ℕ) (A : Accepted) (e : ℕ) → readPolicy s ≡ got A e → length (policyOf A .constants) ≤ 255
 unfolding computedPolicy constantsFrom verbsFrom assertionsFrom
 accepted-count s A e r =
-    let c = andThen-got _ _ A e (headed-got s _ A e (sym (policy-is s) ∙ r)) in
+    let c = andThen-got _ _ A e (headed-got version s _ A e (sym (policy-is s) ∙ r)) in
     let v = andThen-got _ _ A e (c .3) in
     let a = andThen-got _ _ A e (v .3) in
     let q = ended-got s _ A (a .1) e (a .3) in

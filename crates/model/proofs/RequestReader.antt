@@ -8,7 +8,7 @@ use native.Mathlib.Omega.{arith}
 use lib.ListN.{length, List·getD-eq-default}
 use lib.Dec.{eqb, leb, leb·zero}
 use borrow.Author.Tests.{lt-ltb, le-ltb, le-leb, lt-leb}
-use Rattle.model.specs.Limits.{maxDay, maxParts, maxDepth, maxVariable, headerBytes, firstNodeAt}
+use Rattle.model.specs.Limits.{maxDay, maxParts, maxDepth, maxVariable, version, headerBytes, firstNodeAt}
 use Rattle.model.specs.Syntax.{Expr, Fact, Constraint, Constant, Verb, Node, Nodes, says, test, allOf, anyOf, non, exists, more, Request}
 use Rattle.model.specs.Kinds.{Demands, noDemands, joined, testDemands, demandsIn, fitting}
 use Rattle.model.specs.Safety.{safeRequest}
@@ -318,4 +318,4 @@ module _ (cs : List Constant) (vs : List Verb) (s : List ℕ) where
   -- the reader in one walk is the computed one
   pub request-is : readRequest cs vs s ≡ computedRequest cs vs s
   unfolding readRequest computedRequest
-  request-is = slice-is s _ (requestFrom cs vs s) today-is
+  request-is = slice-is version s _ (requestFrom cs vs s) today-is

@@ -20,12 +20,13 @@ use Rattle.model.specs.Reader.{sized, times, byte, u16, u32, byteIn, res
 
 -- what an accepted policy says, and where it stands; constants are numbered from 0, verbs from 1
 pub record Accepted : Type 0 where
+  pub version : ℕ
   pub constants : List (Item Constant)
   pub verbs : List (Item Verb)
   pub assertions : List (Item Assertion)
 
 abbrev pub policyOf : Accepted → Policy
-policyOf A = record { version = 1; constants = contents (A .constants); verbs = contents (A .verbs); assertions = contents (A .assertions) }
+policyOf A = record { version = A .version; constants = contents (A .constants); verbs = contents (A .verbs); assertions = contents (A .assertions) }
 
 module _ (s : List ℕ) where
   -- ---- constants: "a kind byte, a value"; verbs: "arity byte 0 to 3, one kind byte per parameter, label as above"
@@ -152,25 +153,26 @@ module _ (s : List ℕ) where
   -- ---- the whole
 
   -- "Byte 0: version, 1. Bytes 1 to 4: count of all bytes after them." "1 version absent or not 1 (place 0). 2 length field short or wrong (place 1)."
-  unfoldable pub slice : {A : Type 0} → Reader A → Reading A
-  slice r =
-      choose (ltb 0 (length s) && eqb (byteAt s 0) 1)
+  -- The versions that a slice takes are 1 to `latest`.
+  unfoldable pub slice : {A : Type 0} → ℕ → Reader A → Reading A
+  slice latest r =
+      choose (ltb 0 (length s) && (leb 1 (byteAt s 0) && leb (byteAt s 0) latest))
       (choose (leb 5 (length s) && eqb (u32At s 1) (length s - 5))
       (r 0 (length s) 5)
       (refused 2 1)) (refused 1 0)
 
 -- "Constants (1 to 255 ..) .. Verbs (0 to 64 ..) .. Assertions (0 to 256)"; "for leftovers, the first of them"
 unfoldable pub readPolicy : List ℕ → Reading Accepted
-readPolicy s = slice s do
+readPolicy s = slice s 1 do
   cs ← list s 1 255 (constantItem s)
   vs ← list s 0 64 (verbItem s)
   𝒜 ← list s 0 256 (assertionItem s (contents cs) (contents vs))
   item ending
-  pure (record { constants = cs; verbs = vs; assertions = 𝒜 })
+  pure (record { version = byteAt s 0; constants = cs; verbs = vs; assertions = 𝒜 })
 
 -- "today (4 bytes, 0 to 36,524), one node"; "the first has depth 1, and 8 is the deepest"; "7 unsafe request (place 9)", which "comes last"
 unfoldable pub readRequest : List Constant → List Verb → List ℕ → Reading Request
-readRequest cs vs s = slice s do
+readRequest cs vs s = slice s 1 do
   t ← item do t ← u32 s; require 3 (leb t 36524); pure t
   n ← node s cs vs 8 noDemands
   item ending

@@ -4,7 +4,7 @@ use mathlib.Core.List.{List}
 use mathlib.Core.Bool.{Bool}
 use lib.ListN.{length}
 use lib.Dec.{ltb, leb}
-use Rattle.model.specs.Limits.{maxDay, maxParts, maxDepth, maxVariable, headerBytes, firstNodeAt}
+use Rattle.model.specs.Limits.{maxDay, maxParts, maxDepth, maxVariable, version, headerBytes, firstNodeAt}
 use Rattle.model.specs.Syntax.{Constant, Verb, Node, Request}
 use Rattle.model.specs.Kinds.{Demands, noDemands, joined, saysDemands, testDemands, fitting}
 use Rattle.model.specs.Safety.{safeRequest}
@@ -72,4 +72,4 @@ module _ (cs : List Constant) (vs : List Verb) (s : List ℕ) where
       (andThen (checkNode maxDepth noDemands firstNodeAt) (λ D p. andThen (ended s requestOf p) safely)))
 
   unfoldable pub computedRequest : Reading Request
-  computedRequest = headed s requestFrom
+  computedRequest = headed version s requestFrom

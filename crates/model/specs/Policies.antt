@@ -19,15 +19,15 @@ use Rattle.model.specs.Forms.{Form, ends, broken, noVerb, constantForm, 
 
 -- ---- every slice: version, length; a list of items; nothing left over
 
--- "1 version absent or not 1 (place 0). 2 length field short or wrong (place 1)."
-unfoldable pub versionThere : List ℕ → Bool
-versionThere s = both (ltb 0 (length s)) (eqb (byteAt s 0) version)
+-- "1 version absent or not 1 (place 0). 2 length field short or wrong (place 1)."; the versions that a slice takes are 1 to `latest`
+unfoldable pub versionThere : ℕ → List ℕ → Bool
+versionThere latest s = both (ltb 0 (length s)) (both (leb 1 (byteAt s 0)) (leb (byteAt s 0) latest))
 
 unfoldable pub lengthRight : List ℕ → Bool
 lengthRight s = both (leb headerBytes (length s)) (eqb (u32At s lengthAt) (length s - headerBytes))
 
-unfoldable pub headed : {A : Type 0} → List ℕ → Reading A → Reading A
-headed s r = choose (versionThere s) (choose (lengthRight s) r (refused 2 lengthAt)) (refused 1 0)
+unfoldable pub headed : {A : Type 0} → ℕ → List ℕ → Reading A → Reading A
+headed latest s r = choose (versionThere latest s) (choose (lengthRight s) r (refused 2 lengthAt)) (refused 1 0)
 
 -- "bytes left over": the place is the first of them
 unfoldable pub ended : {A : Type 0} → List ℕ → A → ℕ → Reading A
@@ -89,7 +89,7 @@ assertionItem cs vs s before at = assertionBy (assertionForm vs s at) cs vs (ass
 unfoldable pub assertionsFrom : List ℕ → List (Item Constant) → List (Item Verb) → ℕ → Reading Accepted
 assertionsFrom s cs vs p =
     andThen (listAt s 0 maxAssertions (assertionItem (contents cs) (contents vs) s) p)
-    (λ 𝒜 e. ended s (record { constants = cs; verbs = vs; assertions = 𝒜 }) e)
+    (λ 𝒜 e. ended s (record { version = byteAt s 0; constants = cs; verbs = vs; assertions = 𝒜 }) e)
 
 unfoldable pub verbsFrom : List ℕ → List (Item Constant) → ℕ → Reading Accepted
 verbsFrom s cs p = andThen (listAt s 0 maxVerbs (verbItem s) p) (λ vs e. assertionsFrom s cs vs e)
@@ -98,4 +98,4 @@ unfoldable pub constantsFrom : List ℕ → Reading Accepted
 constantsFrom s = andThen (listAt s 1 maxConstants (constantItem s) headerBytes) (λ cs e. verbsFrom s cs e)
 
 unfoldable pub computedPolicy : List ℕ → Reading Accepted
-computedPolicy s = headed s (constantsFrom s)
+computedPolicy s = headed version s (constantsFrom s)

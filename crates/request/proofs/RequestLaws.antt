@@ -12,7 +12,7 @@ use lib.ListN.{length, getD}
 use lib.Seq.{ext-getD}
 use lib.Dec.{T, eqb, ltb}
 use borrow.Author.Tests.{eq-eqb, ne-eqb, lt-ltb}
-use Rattle.model.specs.Limits.{maxDay, maxDepth, firstNodeAt, headerBytes, principal}
+use Rattle.model.specs.Limits.{version, maxDay, maxDepth, firstNodeAt, headerBytes, principal}
 use Rattle.model.specs.Lists.{each, member, among, apart}
 use Rattle.model.specs.Syntax as syntax
 use Rattle.model.specs.Syntax.{Expr, var, Constraint, Constant, Verb, Node, Nodes, says, test, allOf, anyOf, non, exists, end, more, varsOf, varsIn}
@@ -195,7 +195,7 @@ module _ {cs : List Constant} {vs : List Verb} {ks sg : List ℕ} (X : Tables cs
   -- THE LAW
   pub request-is : requestIn ks sg s ≡ handedOut vs (readRequest cs vs s)
   unfolding requestIn computedRequest headed handedOut
-  request-is = rw (plainly cs vs s) (handed-choose vs (versionThere s) _ _ _ _ (handed-choose vs (lengthRight s) _ _ _ _ whole-is refl) refl)
+  request-is = rw (plainly cs vs s) (handed-choose vs (versionThere version s) _ _ _ _ (handed-choose vs (lengthRight s) _ _ _ _ whole-is refl) refl)
 
 -- ---- as the code takes it
 
@@ -203,15 +203,15 @@ abbrev pub Means : List ℕ → List ℕ → List ℕ → Request → Type 0
 Means ks sg s z = (cs : List Constant) (vs : List Verb) → Tables cs vs ks sg → z ≡ handedOut vs (readRequest cs vs s)
 
 module _ (ks sg s : List ℕ) (z : Request) where
-  pub means-version : versionThere s ≡ false → z ≡ refusal 1 0 → Means ks sg s z
+  pub means-version : versionThere version s ≡ false → z ≡ refusal 1 0 → Means ks sg s z
   unfolding requestIn
   means-version o h cs vs X = h ∙ sym (choose-false _ _ o) ∙ request-is X s
 
-  pub means-length : versionThere s ≡ true → lengthRight s ≡ false → z ≡ refusal 2 1 → Means ks sg s z
+  pub means-length : versionThere version s ≡ true → lengthRight s ≡ false → z ≡ refusal 2 1 → Means ks sg s z
   unfolding requestIn
   means-length o p h cs vs X = h ∙ sym (choose-true _ _ o ∙ choose-false _ _ p) ∙ request-is X s
 
-  pub means-whole : versionThere s ≡ true → lengthRight s ≡ true → z ≡ wholeIn ks sg s → Means ks sg s z
+  pub means-whole : versionThere version s ≡ true → lengthRight s ≡ true → z ≡ wholeIn ks sg s → Means ks sg s z
   unfolding requestIn
   means-whole o p h cs vs X = h ∙ sym (choose-true _ _ o ∙ choose-true _ _ p) ∙ request-is X s
 

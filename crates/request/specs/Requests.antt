@@ -4,7 +4,7 @@ use mathlib.Core.List.{List, map}
 use mathlib.Core.Bool.{cond}
 use lib.ListN.{length, getD}
 use lib.Dec.{eqb, ltb}
-use Rattle.model.specs.Limits.{maxDay, maxDepth, firstNodeAt, headerBytes, lengthAt}
+use Rattle.model.specs.Limits.{version, maxDay, maxDepth, firstNodeAt, headerBytes, lengthAt}
 use Rattle.model.specs.Lists.{member}
 use Rattle.model.specs.Syntax as syntax
 use Rattle.model.specs.Syntax.{Verb}
@@ -73,4 +73,4 @@ module _ (ks sg s : List ℕ) where
       (endedIn sg s (readIn ks sg s maxDepth firstNodeAt nothing)))
 
   unfoldable pub requestIn : Request
-  requestIn = choose (versionThere s) (choose (lengthRight s) wholeIn (refusal 2 lengthAt)) (refusal 1 0)
+  requestIn = choose (versionThere version s) (choose (lengthRight s) wholeIn (refusal 2 lengthAt)) (refusal 1 0)

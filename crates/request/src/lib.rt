@@ -145,7 +145,7 @@ pub fn read(ks: &[u8], sg: &[u8], s: &[u8]) -> Request
         → r ≡ handedOut vs (readRequest cs vs (now (s .entry)))) ⌝ }
     ensures short { λ r. ⌜ (r .refusal ≡ 0 → length (now (s .entry)) ≤ longest) ⌝ }
 {
-    if !slices::version_there(s) {
+    if !slices::version_there(s, limits::VERSION) {
         return refused(1, 0);
     }
     if !slices::length_right(s) {

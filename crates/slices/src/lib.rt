@@ -13,11 +13,18 @@ pub enum Step {
     Refused(u8, usize),
 }
 
-// "1 version absent or not 1"
-pub fn version_there(s: &[u8]) -> bool
-    ensures { λ r. ⌜ r ≡ versionThere (now (s .entry)) ⌝ }
+// "1 version absent or not 1": a slice takes the versions 1 to `latest`.
+pub fn version_there(s: &[u8], latest: usize) -> bool
+    ensures { λ r. ⌜ r ≡ versionThere latest (now (s .entry)) ⌝ }
 {
-    0 < s.len() && wire::byte(s, 0) == limits::VERSION
+    if 0 < s.len() {
+        let version = wire::byte(s, 0);
+        if 1 <= version {
+            return version <= latest;
+        }
+        return false;
+    }
+    false
 }
 
 // "2 length field short or wrong"
