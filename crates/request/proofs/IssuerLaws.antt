@@ -17,10 +17,10 @@ use Rattle.model.specs.Requests.{issuers, issuersAll}
 use Rattle.model.specs.Readings.{nodeAt}
 use Rattle.phrases.specs.Tables.{Tables}
 use Rattle.phrases.specs.Marks.{marked}
-use Rattle.request.specs.Tree.{treeIn}
+use Rattle.nodes.specs.Tree.{treeIn}
 use Rattle.request.specs.Issuing.{constantsBy, worldBy}
-use Rattle.request.proofs.TreeLaws.{tree-is}
-use Rattle.request.proofs.SafeLaws.{set-at, member-append}
+use Rattle.nodes.proofs.TreeLaws.{tree-is}
+use Rattle.safety.proofs.SafeLaws.{set-at, member-append}
 
 -- constant p is of a kind other than 0
 later : (k p n : ℕ) (cs : List Constant) → p < n → member p (ofKind k n cs) ≡ false

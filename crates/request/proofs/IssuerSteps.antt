@@ -19,12 +19,12 @@ use Rattle.model.specs.Readings.{exprOf, exprAt, nodesBy}
 use Rattle.wire.proofs.Reading.{choose-true, choose-false}
 use Rattle.phrases.specs.Marks.{marked}
 use Rattle.phrases.proofs.Sets.{marked-append}
-use Rattle.request.specs.Tree.{shapeAt, endIn, treeIn}
+use Rattle.nodes.specs.Tree.{shapeAt, endIn, treeIn}
 use Rattle.request.specs.Issuing.{constantsBy}
-use Rattle.request.specs.declared.tree.Shape.{Shape}
-use Rattle.request.specs.declared.tree.Shape.the-variants.{Says, Test, All, Any, Not, Exists, Nothing}
-use Rattle.request.proofs.TreeSteps.{nodes-none, nodes-more, tree-deep, tree-past, tree-says, tree-test, tree-all, tree-any, tree-not, tree-exists}
-use Rattle.request.proofs.TreeSteps.{tree-nothing}
+use Rattle.nodes.specs.declared.tree.Shape.{Shape}
+use Rattle.nodes.specs.declared.tree.Shape.the-variants.{Says, Test, All, Any, Not, Exists, Nothing}
+use Rattle.nodes.proofs.TreeSteps.{nodes-none, nodes-more, tree-deep, tree-past, tree-says, tree-test, tree-all, tree-any, tree-not, tree-exists}
+use Rattle.nodes.proofs.TreeSteps.{tree-nothing}
 
 -- past the marks
 pub set-past : (m : List ℕ) (v x : ℕ) → length m ≡ 255 → 255 ≤ v → m ≡ set m v x

@@ -1,12 +1,5 @@
-pub mod TreeSteps
-pub mod NodeSteps
-pub mod SafetySteps
-pub mod KnownSteps
-pub mod TreeLaws
-pub mod ReadLaws
 pub mod IssuerSteps
 pub mod RequestSteps
-pub mod SafeLaws
 pub mod KindLaws
 pub mod RequestLaws
 pub mod IssuerLaws

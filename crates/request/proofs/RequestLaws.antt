@@ -33,15 +33,15 @@ use Rattle.kinds.proofs.Model.{fits-low, kind-cell}
 use Rattle.phrases.specs.Tables.{Tables}
 use Rattle.phrases.specs.Marks.{none, marked}
 use Rattle.phrases.proofs.Sets.{marked-append, marked-length, mark-is}
-use Rattle.request.specs.Tree.{treeIn}
-use Rattle.request.specs.Safety.{judgedSafe, judgedUnsafe, judgedIn}
+use Rattle.nodes.specs.Tree.{treeIn}
+use Rattle.safety.specs.Safety.{judgedSafe, judgedUnsafe, judgedIn}
 use Rattle.request.specs.Requests.{refusal, marks, handedOut, cellKind, cellKinds, acceptedIn, endedIn, wholeIn, requestIn}
-use Rattle.request.specs.declared.nodes.Got.{Got}
+use Rattle.nodes.specs.declared.Got.{Got}
 use Rattle.request.specs.declared.Request.{Request}
-use Rattle.request.proofs.TreeLaws.{by-bool, tree-is}
-use Rattle.request.proofs.ReadLaws.{State, state-fits, Reads, reads-node, state-none}
+use Rattle.nodes.proofs.TreeLaws.{by-bool, tree-is}
+use Rattle.nodes.proofs.ReadLaws.{State, state-fits, Reads, reads-node, state-none}
 use Rattle.model.proofs.CheckedNodes.{Sound, SoundAll, node-checked}
-use Rattle.request.proofs.SafeLaws.{Below, Small, SmallAll, mark-at, judged-is}
+use Rattle.safety.proofs.SafeLaws.{Below, Small, SmallAll, mark-at, judged-is}
 use Rattle.request.proofs.KindLaws.{head-in, fact-in, place-used, told, kind-none, kind-some}
 use Rattle.model.proofs.RequestReader.{request-is as plainly}
 use Rattle.model.specs.Nodes.{computedRequest}

@@ -1,5 +1,2 @@
-pub mod Tree
-pub mod Nodes
-pub mod Safety
 pub mod Requests
 pub mod Issuing

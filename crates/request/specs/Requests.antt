@@ -14,11 +14,11 @@ use Rattle.model.specs.Bytes.{u32At, choose, Reading, got, refused}
 use Rattle.model.specs.Policies.{versionThere, lengthRight}
 use Rattle.kinds.specs.Cells.{nothing}
 use Rattle.phrases.specs.Marks.{none}
-use Rattle.request.specs.Tree.{treeIn}
-use Rattle.request.specs.Nodes.{readIn}
-use Rattle.request.specs.Safety.{judgedIn}
-use Rattle.request.specs.declared.nodes.Got.{Got}
-use Rattle.request.specs.declared.safety.Judged.{Judged}
+use Rattle.nodes.specs.Tree.{treeIn}
+use Rattle.nodes.specs.Nodes.{readIn}
+use Rattle.safety.specs.Safety.{judgedIn}
+use Rattle.nodes.specs.declared.Got.{Got}
+use Rattle.safety.specs.declared.Judged.{Judged}
 use Rattle.request.specs.declared.Request.{Request}
 
 -- ---- THE PROMISE: the model's answer, as the code gives it

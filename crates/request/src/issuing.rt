@@ -9,10 +9,10 @@ ghost use Rattle.model.specs.Requests.{issuers, issuersAll};
 ghost use Rattle.model.specs.Readings.{exprAt, nodesBy};
 ghost use Rattle.wire.specs.Budget.{farthest, longest};
 ghost use Rattle.phrases.specs.Marks.{marked};
-ghost use Rattle.request.specs.Tree.{endIn, treeIn};
+ghost use Rattle.nodes.specs.Tree.{endIn, treeIn};
 ghost use Rattle.request.specs.Issuing.{constantsBy, worldBy};
-use super::tree;
-use super::tree::Shape;
+use nodes::tree;
+use nodes::tree::Shape;
 use limits::CONSTANTS;
 
 const PRINCIPAL: u8 = limits::PRINCIPAL as u8;

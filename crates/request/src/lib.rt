@@ -12,14 +12,11 @@ ghost use Rattle.model.specs.Readings.{nodeAt};
 ghost use Rattle.model.specs.Nodes.{readRequest};
 ghost use Rattle.phrases.specs.Tables.{Tables};
 ghost use Rattle.wire.specs.Budget.{longest};
-ghost use Rattle.request.specs.Tree.{treeIn};
-ghost use Rattle.request.specs.Safety.{judgedIn};
+ghost use Rattle.nodes.specs.Tree.{treeIn};
+ghost use Rattle.safety.specs.Safety.{judgedIn};
 ghost use Rattle.request.specs.Requests.{refusal, handedOut, cellKind, cellKinds, acceptedIn, endedIn, wholeIn};
 
 pub mod issuing;
-pub mod nodes;
-pub mod safety;
-pub mod tree;
 
 use limits::DEPTH;
 use limits::FIRST_NODE;

@@ -8,8 +8,8 @@ use Rattle.request.proofs.issuing.parts.Reads as parts
 use Rattle.request.proofs.issuing.parts.Kinds as parts-kinds
 use Rattle.request.proofs.issuing.+node+parts.Lts-parts as parts-lts
 use Rattle.request.proofs.issuing.with_issuer.Reads as with-issuer-reads
-use Rattle.request.proofs.tree.node_end.Reads as node-end-reads
-use Rattle.request.proofs.tree.shape_at.Reads as shape-at-reads
+use Rattle.nodes.proofs.tree.node_end.Reads as node-end-reads
+use Rattle.nodes.proofs.tree.shape_at.Reads as shape-at-reads
 use Rattle.wire.proofs.byte_or.Reads as byte-or-reads
 use Rattle.request.proofs.issuing.+node+parts.{statement}
 use Rattle.request.proofs.issuing.+node+parts.Tie.{close}

@@ -1,0 +1,4 @@
+pub mod TreeSteps
+pub mod NodeSteps
+pub mod TreeLaws
+pub mod ReadLaws

@@ -1,0 +1,4 @@
+pub mod SafetySteps
+pub mod KnownSteps
+pub mod SafeLaws
+pub mod JudgeSteps
