@@ -7,10 +7,10 @@ ghost use Rattle.kinds.specs.Cells.{feed};
 ghost use Rattle.wire.specs.Budget.{longest};
 ghost use Rattle.nodes.specs.Tree.{shapeAt};
 ghost use Rattle.nodes.specs.Nodes.{ownForm, fitsTo, testIn, saysAsks, saysIn, readsBy, readIn};
-use tree::Shape;
 use kinds::Fit;
 use limits::VARIABLES;
 use phrases::Form;
+use tree::Shape;
 
 pub mod tree;
 

@@ -11,9 +11,9 @@ ghost use Rattle.wire.specs.Budget.{farthest, longest};
 ghost use Rattle.phrases.specs.Marks.{marked};
 ghost use Rattle.nodes.specs.Tree.{endIn, treeIn};
 ghost use Rattle.request.specs.Issuing.{constantsBy, worldBy};
+use limits::CONSTANTS;
 use nodes::tree;
 use nodes::tree::Shape;
-use limits::CONSTANTS;
 
 const PRINCIPAL: u8 = limits::PRINCIPAL as u8;
 

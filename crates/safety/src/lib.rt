@@ -13,11 +13,11 @@ ghost use Rattle.wire.specs.Budget.{longest};
 ghost use Rattle.nodes.specs.Tree.{endIn, treeIn};
 ghost use Rattle.safety.specs.Safety.{safeWith, notSafe, knownThen, taken, needed, dropped, knownSays, knownIn, knownAllIn, knownAnyIn};
 ghost use Rattle.safety.specs.Safety.{judgedUnsafe, judgedKnown, judgedIn};
-use nodes::tree;
-use nodes::tree::Shape;
 use limits::DEPTH;
 use limits::FIRST_NODE;
 use limits::VARIABLES;
+use nodes::tree;
+use nodes::tree::Shape;
 use phrases::marks;
 
 // Whether a node is safe where some variables are known before, and those known after it.
