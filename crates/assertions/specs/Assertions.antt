@@ -20,6 +20,10 @@ use Rattle.slices.specs.declared.Step.{Step}
 use Rattle.slices.specs.declared.Step.the-variants.{Next, Refused}
 use Rattle.slices.specs.Steps.{thenStep, countRight, endedAt}
 
+-- "2-byte length .., 4-byte serial .., issuer, head fact": where the issuer of the assertion at an offset stands
+unfoldable pub issuerAt : ℕ → ℕ
+issuerAt at = at + 6
+
 -- ---- form, in an item that ends at e
 
 -- constraints, whose count stands at p; they end the item
