@@ -1,6 +1,6 @@
 // A decision's outcome in the numbers of the C interface.
-use super::Report;
 use super::Outcome;
+use super::Report;
 ghost use mathlib.Core.Path.{_≡_};
 ghost use mathlib.Core.List.{[]};
 ghost use Prim.Native.Nat.{_<_};

@@ -58,31 +58,31 @@ fn refused(number: u8, place: usize) -> Index
     }
 }
 
-// Everything is in order: the verbs' count stands at p, the assertions' at q.
+// Everything is in order: the verbs' count stands at `second`, the assertions' at `third`.
 fn accepted(
-    s: &[u8],
-    p: usize,
-    q: usize,
+    policy: &[u8],
+    second: usize,
+    third: usize,
     kinds: [u8; limits::CONSTANTS],
     signatures: [u8; tables::SIGNATURES],
 ) -> Index
-    requires { ⌜ (p ≤ length (now s)) × (q ≤ length (now s)) × (length (now s) ≤ longest) × (u16At (now s) 5 ≤ maxConstants) × (u16At (now s) p ≤ maxVerbs)
-        × (u16At (now s) q ≤ maxAssertions) ⌝ }
-    ensures { λ r. ⌜ r ≡ indexAt (now (s .entry)) p q kinds signatures ⌝ }
+    requires { ⌜ (second ≤ length (now policy)) × (third ≤ length (now policy)) × (length (now policy) ≤ longest)
+        × (u16At (now policy) 5 ≤ maxConstants) × (u16At (now policy) second ≤ maxVerbs) × (u16At (now policy) third ≤ maxAssertions) ⌝ }
+    ensures { λ r. ⌜ r ≡ indexAt (now (policy .entry)) second third kinds signatures ⌝ }
 {
-    let n = wire::u16_or(s, limits::HEADER);
-    let v = wire::u16_or(s, p);
-    let a = wire::u16_or(s, q);
-    let constant_at = tables::constant_offsets(s, n, FIRST_CONSTANT);
-    let verb_at = tables::verb_offsets(s, v, p + 2);
-    let assertion_at = tables::assertion_offsets(s, a, q + 2);
-    let issuer_at = tables::issuer_offsets(s, a, q + 2);
+    let constants = wire::u16_or(policy, limits::HEADER);
+    let verbs = wire::u16_or(policy, second);
+    let assertions = wire::u16_or(policy, third);
+    let constant_at = tables::constant_offsets(policy, constants, FIRST_CONSTANT);
+    let verb_at = tables::verb_offsets(policy, verbs, second + 2);
+    let assertion_at = tables::assertion_offsets(policy, assertions, third + 2);
+    let issuer_at = tables::issuer_offsets(policy, assertions, third + 2);
     Index {
         answer: Answer::Accepted,
-        version: wire::byte_or(s, 0),
-        constants: n,
-        verbs: v,
-        assertions: a,
+        version: wire::byte_or(policy, 0),
+        constants,
+        verbs,
+        assertions,
         constant_at: constant_at,
         verb_at: verb_at,
         assertion_at: assertion_at,
@@ -92,54 +92,57 @@ fn accepted(
     }
 }
 
-// Constants and verbs are in order: the verbs' count stands at p, the assertions' at q.
-fn with_verbs(s: &[u8], p: usize, q: usize) -> Index
-    requires { ⌜ (length (now s) ≤ longest) × (listAt (now s) 1 maxConstants (constantItem (now s)) 5 ≡ got (constantsAt (now s) (u16At (now s) 5) 7) p)
-        × (listAt (now s) 0 maxVerbs (verbItem (now s)) p ≡ got (verbsAt (now s) (u16At (now s) p) (p + 2)) q) ⌝ }
-    ensures { λ r. ⌜ r ≡ handedOut (assertionsFrom (now (s .entry)) (constantsAt (now (s .entry)) (u16At (now (s .entry)) 5) 7)
-        (verbsAt (now (s .entry)) (u16At (now (s .entry)) p) (p + 2)) q) ⌝ }
+// Constants and verbs are in order: the verbs' count stands at `second`, the assertions' at `third`.
+fn with_verbs(policy: &[u8], second: usize, third: usize) -> Index
+    requires { ⌜ (length (now policy) ≤ longest)
+        × (listAt (now policy) 1 maxConstants (constantItem (now policy)) 5 ≡ got (constantsAt (now policy) (u16At (now policy) 5) 7) second)
+        × (listAt (now policy) 0 maxVerbs (verbItem (now policy)) second
+        ≡ got (verbsAt (now policy) (u16At (now policy) second) (second + 2)) third) ⌝ }
+    ensures { λ r. ⌜ r ≡ handedOut (assertionsFrom (now (policy .entry)) (constantsAt (now (policy .entry)) (u16At (now (policy .entry)) 5) 7)
+        (verbsAt (now (policy .entry)) (u16At (now (policy .entry)) second) (second + 2)) third) ⌝ }
 {
-    let kinds = tables::kinds(s, wire::u16_or(s, limits::HEADER), FIRST_CONSTANT);
-    let signatures = tables::signatures(s, wire::u16_or(s, p), p + 2);
-    match assertions::assertions(&kinds, &signatures, s, q) {
-        Step::Next(_) => accepted(s, p, q, kinds, signatures),
+    let kinds = tables::kinds(policy, wire::u16_or(policy, limits::HEADER), FIRST_CONSTANT);
+    let signatures = tables::signatures(policy, wire::u16_or(policy, second), second + 2);
+    match assertions::assertions(&kinds, &signatures, policy, third) {
+        Step::Next(_) => accepted(policy, second, third, kinds, signatures),
         Step::Refused(number, place) => refused(number, place),
     }
 }
 
-// Constants are in order: the verbs' count stands at p.
-fn with_constants(s: &[u8], p: usize) -> Index
-    requires { ⌜ (length (now s) ≤ longest) × (listAt (now s) 1 maxConstants (constantItem (now s)) 5 ≡ got (constantsAt (now s) (u16At (now s) 5) 7) p) ⌝ }
-    ensures { λ r. ⌜ r ≡ handedOut (verbsFrom (now (s .entry)) (constantsAt (now (s .entry)) (u16At (now (s .entry)) 5) 7) p) ⌝ }
+// Constants are in order: the verbs' count stands at `second`.
+fn with_constants(policy: &[u8], second: usize) -> Index
+    requires { ⌜ (length (now policy) ≤ longest)
+        × (listAt (now policy) 1 maxConstants (constantItem (now policy)) 5 ≡ got (constantsAt (now policy) (u16At (now policy) 5) 7) second) ⌝ }
+    ensures { λ r. ⌜ r ≡ handedOut (verbsFrom (now (policy .entry)) (constantsAt (now (policy .entry)) (u16At (now (policy .entry)) 5) 7) second) ⌝ }
 {
-    match names::verbs::verbs(s, p) {
-        Step::Next(q) => with_verbs(s, p, q),
+    match names::verbs::verbs(policy, second) {
+        Step::Next(third) => with_verbs(policy, second, third),
         Step::Refused(number, place) => refused(number, place),
     }
 }
 
 // Version and length are in order.
-fn headed(s: &[u8]) -> Index
-    requires { ⌜ length (now s) ≤ longest ⌝ }
-    ensures { λ r. ⌜ r ≡ handedOut (constantsFrom (now (s .entry))) ⌝ }
+fn headed(policy: &[u8]) -> Index
+    requires { ⌜ length (now policy) ≤ longest ⌝ }
+    ensures { λ r. ⌜ r ≡ handedOut (constantsFrom (now (policy .entry))) ⌝ }
 {
-    match names::constants::constants(s, limits::HEADER) {
-        Step::Next(p) => with_constants(s, p),
+    match names::constants::constants(policy, limits::HEADER) {
+        Step::Next(second) => with_constants(policy, second),
         Step::Refused(number, place) => refused(number, place),
     }
 }
 
-// The policy that `s` holds.
-pub fn read(s: &[u8]) -> Index
-    ensures { λ r. ⌜ r ≡ handedOut (readPolicy (now (s .entry))) ⌝ }
+// The policy that these bytes hold.
+pub fn read(policy: &[u8]) -> Index
+    ensures { λ r. ⌜ r ≡ handedOut (readPolicy (now (policy .entry))) ⌝ }
 {
-    if !slices::version_there(s, limits::VERSION) {
+    if !slices::version_there(policy, limits::VERSION) {
         return refused(1, 0);
     }
-    if !slices::length_right(s) {
+    if !slices::length_right(policy) {
         return refused(2, limits::LENGTH_AT);
     }
-    headed(s)
+    headed(policy)
 }
 
 // A part of the policy's bytes.
@@ -149,17 +152,17 @@ pub struct Part {
 }
 
 // Where the label of the constant stands; an empty part at 0 where there is none.
-fn label_part(s: &[u8], constant: usize) -> Part
-    ensures { λ r. ⌜ r ≡ labelPart (handedOut (readPolicy (now (s .entry)))) (now (s .entry)) constant ⌝ }
+fn label_part(policy: &[u8], constant: usize) -> Part
+    ensures { λ r. ⌜ r ≡ labelPart (handedOut (readPolicy (now (policy .entry)))) (now (policy .entry)) constant ⌝ }
 {
-    let x = read(s);
+    let x = read(policy);
     if constant < x.constants {
         let kind = x.kinds[constant];
         if labels::has_label(kind as usize) {
             let at = x.constant_at[constant];
             return Part {
                 from: at + 2,
-                to: at + 1 + wire::byte_or(s, at),
+                to: at + 1 + wire::byte_or(policy, at),
             };
         }
         return Part { from: 0, to: 0 };
@@ -168,11 +171,11 @@ fn label_part(s: &[u8], constant: usize) -> Part
 }
 
 // The label of a principal or a thing: that part of the policy's bytes. An empty part for other kinds, numbers not present and policies not accepted.
-pub fn label(s: &[u8], constant: usize) -> &[u8]
-    ensures { λ r. ⌜ now r ≡ labelOf (now (s .entry)) constant ⌝ }
+pub fn label(policy: &[u8], constant: usize) -> &[u8]
+    ensures { λ r. ⌜ now r ≡ labelOf (now (policy .entry)) constant ⌝ }
 {
-    let r = label_part(s, constant);
+    let r = label_part(policy, constant);
     let from = r.from;
     let to = r.to;
-    &s[from..to]
+    &policy[from..to]
 }

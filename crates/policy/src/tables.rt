@@ -20,163 +20,170 @@ const ACTED_AS: u8 = limits::PRINCIPAL as u8;
 
 // ---- into a lent slice
 
-// Where n constants or verbs from p on begin.
-fn put_items(s: &[u8], n: usize, p: usize, t: &mut [usize])
-    requires { ⌜ (n ≤ length (now t)) × (p + 256 * n ≤ farthest) ⌝ }
-    ensures { λ r. ⌜ now (t .exit) ≡ sets (now (t .entry)) 0 (startsAt (itemEnd (now (s .entry))) n p) ⌝ }
+// Where `count` constants or verbs from `from` on begin.
+fn put_items(policy: &[u8], count: usize, from: usize, table: &mut [usize])
+    requires { ⌜ (count ≤ length (now table)) × (from + 256 * count ≤ farthest) ⌝ }
+    ensures { λ r. ⌜ now (table .exit) ≡ sets (now (table .entry)) 0 (startsAt (itemEnd (now (policy .entry))) count from) ⌝ }
 {
     let mut i = 0;
-    let mut at = p;
-    while i < n {
-        t[i] = at;
-        at = at + 1 + wire::byte_or(s, at);
+    let mut at = from;
+    while i < count {
+        table[i] = at;
+        at = at + 1 + wire::byte_or(policy, at);
         i += 1;
     }
 }
 
-// Where n assertions from p on begin.
-fn put_assertions(s: &[u8], n: usize, p: usize, t: &mut [usize])
-    requires { ⌜ (n ≤ length (now t)) × (p + 65537 * n ≤ farthest) ⌝ }
-    ensures { λ r. ⌜ now (t .exit) ≡ sets (now (t .entry)) 0 (startsAt (assertionEnd (now (s .entry))) n p) ⌝ }
+// Where `count` assertions from `from` on begin.
+fn put_assertions(policy: &[u8], count: usize, from: usize, table: &mut [usize])
+    requires { ⌜ (count ≤ length (now table)) × (from + 65537 * count ≤ farthest) ⌝ }
+    ensures { λ r. ⌜ now (table .exit) ≡ sets (now (table .entry)) 0 (startsAt (assertionEnd (now (policy .entry))) count from) ⌝ }
 {
     let mut i = 0;
-    let mut at = p;
-    while i < n {
-        t[i] = at;
-        at = at + 2 + wire::u16_or(s, at);
+    let mut at = from;
+    while i < count {
+        table[i] = at;
+        at = at + 2 + wire::u16_or(policy, at);
         i += 1;
     }
 }
 
-// Where the issuers of n assertions from p on stand.
-fn put_issuers(s: &[u8], n: usize, p: usize, t: &mut [usize])
-    requires { ⌜ (n ≤ length (now t)) × (p + 65537 * n + 6 ≤ farthest) ⌝ }
-    ensures { λ r. ⌜ now (t .exit) ≡ sets (now (t .entry)) 0 (map issuerAt (startsAt (assertionEnd (now (s .entry))) n p)) ⌝ }
+// Where the issuers of `count` assertions from `from` on stand.
+fn put_issuers(policy: &[u8], count: usize, from: usize, table: &mut [usize])
+    requires { ⌜ (count ≤ length (now table)) × (from + 65537 * count + 6 ≤ farthest) ⌝ }
+    ensures { λ r. ⌜ now (table .exit) ≡ sets (now (table .entry)) 0 (map issuerAt (startsAt (assertionEnd (now (policy .entry))) count from)) ⌝ }
 {
     let mut i = 0;
-    let mut at = p;
-    while i < n {
-        t[i] = at + assertions::ISSUER;
-        at = at + 2 + wire::u16_or(s, at);
+    let mut at = from;
+    while i < count {
+        table[i] = at + assertions::ISSUER;
+        at = at + 2 + wire::u16_or(policy, at);
         i += 1;
     }
 }
 
-// The kind of each of n constants from p on.
-fn put_kinds(s: &[u8], n: usize, p: usize, t: &mut [u8])
-    requires { ⌜ (n ≤ length (now t)) × (p + 256 * n + 2 ≤ farthest) ⌝ }
-    ensures { λ r. ⌜ now (t .exit) ≡ sets (now (t .entry)) 0 (map (kindOf (now (s .entry))) (startsAt (itemEnd (now (s .entry))) n p)) ⌝ }
+// The kind of each of `count` constants from `from` on.
+fn put_kinds(policy: &[u8], count: usize, from: usize, table: &mut [u8])
+    requires { ⌜ (count ≤ length (now table)) × (from + 256 * count + 2 ≤ farthest) ⌝ }
+    ensures { λ r. ⌜ now (table .exit)
+        ≡ sets (now (table .entry)) 0 (map (kindOf (now (policy .entry))) (startsAt (itemEnd (now (policy .entry))) count from)) ⌝ }
 {
     let mut i = 0;
-    let mut at = p;
-    while i < n {
-        t[i] = wire::u8_or(s, at + 1);
-        at = at + 1 + wire::byte_or(s, at);
+    let mut at = from;
+    while i < count {
+        table[i] = wire::u8_or(policy, at + 1);
+        at = at + 1 + wire::byte_or(policy, at);
         i += 1;
     }
 }
 
 // The row of the verb at `at`: its arity and one, and the kinds of its parameters.
-fn row(s: &[u8], at: usize) -> [u8; ROW]
+fn row(policy: &[u8], at: usize) -> [u8; ROW]
     requires { ⌜ at + 4 ≤ farthest ⌝ }
-    ensures { λ r. ⌜ r ≡ rowAt (now (s .entry)) at ⌝ }
+    ensures { λ r. ⌜ r ≡ rowAt (now (policy .entry)) at ⌝ }
 {
-    let a = wire::byte_or(s, at + 1);
+    let a = wire::byte_or(policy, at + 1);
     if a == 0 {
         return [1, 0, 0, 0];
     }
     if a == 1 {
-        return [2, wire::u8_or(s, at + 2), 0, 0];
+        return [2, wire::u8_or(policy, at + 2), 0, 0];
     }
     if a == 2 {
-        return [3, wire::u8_or(s, at + 2), wire::u8_or(s, at + 3), 0];
+        return [
+            3,
+            wire::u8_or(policy, at + 2),
+            wire::u8_or(policy, at + 3),
+            0,
+        ];
     }
     [
         4,
-        wire::u8_or(s, at + 2),
-        wire::u8_or(s, at + 3),
-        wire::u8_or(s, at + 4),
+        wire::u8_or(policy, at + 2),
+        wire::u8_or(policy, at + 3),
+        wire::u8_or(policy, at + 4),
     ]
 }
 
-// The rows of n verbs from p on, after that of verb 0.
-fn put_rows(s: &[u8], n: usize, p: usize, t: &mut [u8])
-    requires { ⌜ (4 * n + 4 ≤ length (now t)) × (p + 256 * n + 4 ≤ farthest) ⌝ }
-    ensures { λ r. ⌜ now (t .exit) ≡ sets (now (t .entry)) 4 (each (startsAt (itemEnd (now (s .entry))) n p) (rowAt (now (s .entry)))) ⌝ }
+// The rows of `count` verbs from `from` on, after that of verb 0.
+fn put_rows(policy: &[u8], count: usize, from: usize, table: &mut [u8])
+    requires { ⌜ (4 * count + 4 ≤ length (now table)) × (from + 256 * count + 4 ≤ farthest) ⌝ }
+    ensures { λ r. ⌜ now (table .exit)
+        ≡ sets (now (table .entry)) 4 (each (startsAt (itemEnd (now (policy .entry))) count from) (rowAt (now (policy .entry)))) ⌝ }
 {
     let mut i = 0;
-    let mut at = p;
-    while i < n {
-        let r = row(s, at);
-        t[ROW * i + 4] = r[0];
-        t[ROW * i + 5] = r[1];
-        t[ROW * i + 6] = r[2];
-        t[ROW * i + 7] = r[3];
-        at = at + 1 + wire::byte_or(s, at);
+    let mut at = from;
+    while i < count {
+        let r = row(policy, at);
+        table[ROW * i + 4] = r[0];
+        table[ROW * i + 5] = r[1];
+        table[ROW * i + 6] = r[2];
+        table[ROW * i + 7] = r[3];
+        at = at + 1 + wire::byte_or(policy, at);
         i += 1;
     }
 }
 
 // ---- by value, 0 past the last
 
-// Where n constants from p on begin.
-pub fn constant_offsets(s: &[u8], n: usize, p: usize) -> [usize; limits::CONSTANTS]
-    requires { ⌜ (n ≤ maxConstants) × (p + 256 * n ≤ farthest) ⌝ }
-    ensures { λ r. ⌜ r ≡ held maxConstants (startsAt (itemEnd (now (s .entry))) n p) ⌝ }
+// Where `count` constants from `from` on begin.
+pub fn constant_offsets(policy: &[u8], count: usize, from: usize) -> [usize; limits::CONSTANTS]
+    requires { ⌜ (count ≤ maxConstants) × (from + 256 * count ≤ farthest) ⌝ }
+    ensures { λ r. ⌜ r ≡ held maxConstants (startsAt (itemEnd (now (policy .entry))) count from) ⌝ }
 {
-    let mut t = [0usize; limits::CONSTANTS];
-    put_items(s, n, p, &mut t);
-    t
+    let mut table = [0usize; limits::CONSTANTS];
+    put_items(policy, count, from, &mut table);
+    table
 }
 
-// Where n verbs from p on begin.
-pub fn verb_offsets(s: &[u8], n: usize, p: usize) -> [usize; limits::VERBS]
-    requires { ⌜ (n ≤ maxVerbs) × (p + 256 * n ≤ farthest) ⌝ }
-    ensures { λ r. ⌜ r ≡ held maxVerbs (startsAt (itemEnd (now (s .entry))) n p) ⌝ }
+// Where `count` verbs from `from` on begin.
+pub fn verb_offsets(policy: &[u8], count: usize, from: usize) -> [usize; limits::VERBS]
+    requires { ⌜ (count ≤ maxVerbs) × (from + 256 * count ≤ farthest) ⌝ }
+    ensures { λ r. ⌜ r ≡ held maxVerbs (startsAt (itemEnd (now (policy .entry))) count from) ⌝ }
 {
-    let mut t = [0usize; limits::VERBS];
-    put_items(s, n, p, &mut t);
-    t
+    let mut table = [0usize; limits::VERBS];
+    put_items(policy, count, from, &mut table);
+    table
 }
 
-// Where n assertions from p on begin.
-pub fn assertion_offsets(s: &[u8], n: usize, p: usize) -> [usize; limits::ASSERTIONS]
-    requires { ⌜ (n ≤ maxAssertions) × (p + 65537 * n ≤ farthest) ⌝ }
-    ensures { λ r. ⌜ r ≡ held maxAssertions (startsAt (assertionEnd (now (s .entry))) n p) ⌝ }
+// Where `count` assertions from `from` on begin.
+pub fn assertion_offsets(policy: &[u8], count: usize, from: usize) -> [usize; limits::ASSERTIONS]
+    requires { ⌜ (count ≤ maxAssertions) × (from + 65537 * count ≤ farthest) ⌝ }
+    ensures { λ r. ⌜ r ≡ held maxAssertions (startsAt (assertionEnd (now (policy .entry))) count from) ⌝ }
 {
-    let mut t = [0usize; limits::ASSERTIONS];
-    put_assertions(s, n, p, &mut t);
-    t
+    let mut table = [0usize; limits::ASSERTIONS];
+    put_assertions(policy, count, from, &mut table);
+    table
 }
 
-// Where the issuers of n assertions from p on stand.
-pub fn issuer_offsets(s: &[u8], n: usize, p: usize) -> [usize; limits::ASSERTIONS]
-    requires { ⌜ (n ≤ maxAssertions) × (p + 65537 * n + 6 ≤ farthest) ⌝ }
-    ensures { λ r. ⌜ r ≡ held maxAssertions (map issuerAt (startsAt (assertionEnd (now (s .entry))) n p)) ⌝ }
+// Where the issuers of `count` assertions from `from` on stand.
+pub fn issuer_offsets(policy: &[u8], count: usize, from: usize) -> [usize; limits::ASSERTIONS]
+    requires { ⌜ (count ≤ maxAssertions) × (from + 65537 * count + 6 ≤ farthest) ⌝ }
+    ensures { λ r. ⌜ r ≡ held maxAssertions (map issuerAt (startsAt (assertionEnd (now (policy .entry))) count from)) ⌝ }
 {
-    let mut t = [0usize; limits::ASSERTIONS];
-    put_issuers(s, n, p, &mut t);
-    t
+    let mut table = [0usize; limits::ASSERTIONS];
+    put_issuers(policy, count, from, &mut table);
+    table
 }
 
-// The kind of each of n constants from p on.
-pub fn kinds(s: &[u8], n: usize, p: usize) -> [u8; limits::CONSTANTS]
-    requires { ⌜ (n ≤ maxConstants) × (p + 256 * n + 2 ≤ farthest) ⌝ }
-    ensures { λ r. ⌜ r ≡ kindsAt (now (s .entry)) n p ⌝ }
+// The kind of each of `count` constants from `from` on.
+pub fn kinds(policy: &[u8], count: usize, from: usize) -> [u8; limits::CONSTANTS]
+    requires { ⌜ (count ≤ maxConstants) × (from + 256 * count + 2 ≤ farthest) ⌝ }
+    ensures { λ r. ⌜ r ≡ kindsAt (now (policy .entry)) count from ⌝ }
 {
-    let mut t = [0u8; limits::CONSTANTS];
-    put_kinds(s, n, p, &mut t);
-    t
+    let mut table = [0u8; limits::CONSTANTS];
+    put_kinds(policy, count, from, &mut table);
+    table
 }
 
-// The row of each verb: verb 0, "can act as", has one principal parameter; then n verbs from p on.
-pub fn signatures(s: &[u8], n: usize, p: usize) -> [u8; SIGNATURES]
-    requires { ⌜ (n ≤ maxVerbs) × (p + 256 * n + 4 ≤ farthest) ⌝ }
-    ensures { λ r. ⌜ r ≡ signaturesAt (now (s .entry)) n p ⌝ }
+// The row of each verb: verb 0, "can act as", has one principal parameter; then `count` verbs from `from` on.
+pub fn signatures(policy: &[u8], count: usize, from: usize) -> [u8; SIGNATURES]
+    requires { ⌜ (count ≤ maxVerbs) × (from + 256 * count + 4 ≤ farthest) ⌝ }
+    ensures { λ r. ⌜ r ≡ signaturesAt (now (policy .entry)) count from ⌝ }
 {
-    let mut t = [0u8; SIGNATURES];
-    t[0] = 2;
-    t[1] = ACTED_AS;
-    put_rows(s, n, p, &mut t);
-    t
+    let mut table = [0u8; SIGNATURES];
+    table[0] = 2;
+    table[1] = ACTED_AS;
+    put_rows(policy, count, from, &mut table);
+    table
 }

@@ -28,5 +28,9 @@ accepted-spec = tie.close (tie.spec
     let u16-or2 = u16-or3 .before in
     let u16-or = u16-or2 .before in
     rw (← u16-or .u16-or .ensures .0, ← u16-or2 .u16-or2 .ensures .0, ← u16-or3 .u16-or3 .ensures .0, ← c .byte-or .ensures .0)
-    (rw (← constant-offsets .constant-offsets .ensures, ← verb-offsets .verb-offsets .ensures, ← assertion-offsets .assertion-offsets .ensures,
-    ← issuer-offsets .issuer-offsets .ensures))))
+    (rw (
+      ← constant-offsets .constant-offsets .ensures,
+      ← verb-offsets .verb-offsets .ensures,
+      ← assertion-offsets .assertion-offsets .ensures,
+      ← issuer-offsets .issuer-offsets .ensures,
+    ))))

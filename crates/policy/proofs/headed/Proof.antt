@@ -16,13 +16,13 @@ headed-spec = tie.close (tie.spec
     let p = c .before in
     let constants = p .before .before in
     let entry = constants .before .before in
-    (entry .pre, list-next _ _ _ _ _ _ (constant-reads (entry .args .s .now)) _ _ _ (constants .constants .ensures) (p .p .given .1)))
+    (entry .pre, list-next _ _ _ _ _ _ (constant-reads (entry .args .policy .now)) _ _ _ (constants .constants .ensures) (p .second .given .1)))
     (λ c. search needs)
     (λ c κs. search needs)
     (λ c.
     let p = c .before .before in
     let constants = p .before .before in
     let entry = constants .before .before in
-    then-taken _ _ _ _ _ (list-next _ _ _ _ _ _ (constant-reads (entry .args .s .now)) _ _ _ (constants .constants .ensures) (p .p .given .1))
+    then-taken _ _ _ _ _ (list-next _ _ _ _ _ _ (constant-reads (entry .args .policy .now)) _ _ _ (constants .constants .ensures) (p .second .given .1))
     (c .with-constants .ensures))
     (λ c. search (then-refused, needs)))

@@ -5,8 +5,8 @@ use native.Mathlib.Omega.{arith}
 use mathlib.Core.Path.{ap, _∙_}
 use Rattle.policy.proofs.LabelFacts.{slice, Within, label-is, label-inside}
 
-found : (c : tie.After-label-part) → Within (c .before .before .args .s .now) (c .label-part .result)
-found c = let a = c .before .before .args in rw (c .label-part .ensures) (label-inside (a .s .now) (a .constant))
+found : (c : tie.After-label-part) → Within (c .before .before .args .policy .now) (c .label-part .result)
+found c = let a = c .before .before .args in rw (c .label-part .ensures) (label-inside (a .policy .now) (a .constant))
 
 pub label-spec : {M : Type 1} → statement M
 label-spec = tie.close (tie.spec
@@ -17,4 +17,4 @@ label-spec = tie.close (tie.spec
     (λ c.
     let label-part = c .before in
     let entry = label-part .before .before in
-    ap (slice (entry .args .s .now)) (label-part .label-part .ensures) ∙ label-is (entry .args .s .now) (entry .args .constant)))
+    ap (slice (entry .args .policy .now)) (label-part .label-part .ensures) ∙ label-is (entry .args .policy .now) (entry .args .constant)))

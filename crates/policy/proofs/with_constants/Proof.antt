@@ -14,13 +14,14 @@ with-constants-spec = tie.close (tie.spec
     (λ c. search needs)
     (λ c κs.
     let P = c .before .before .before .before .before .pre in
-    let s = c .before .before .before .before .before .args .s .now in
-    (P .0, P .1, list-next _ _ _ _ _ _ (verb-reads s) _ _ _ (c .before .before .before .verbs .ensures) (c .before .q .given .1)))
+    let s = c .before .before .before .before .before .args .policy .now in
+    (P .0, P .1, list-next _ _ _ _ _ _ (verb-reads s) _ _ _ (c .before .before .before .verbs .ensures) (c .before .third .given .1)))
     (λ c. search needs)
     (λ c κs. search needs)
     (λ c.
     let q = c .before .before in
     let verbs = q .before .before in
     let entry = verbs .before .before in
-    then-taken _ _ _ _ _ (list-next _ _ _ _ _ _ (verb-reads (entry .args .s .now)) _ _ _ (verbs .verbs .ensures) (q .q .given .1)) (c .with-verbs .ensures))
+    then-taken _ _ _ _ _ (list-next _ _ _ _ _ _ (verb-reads (entry .args .policy .now)) _ _ _ (verbs .verbs .ensures) (q .third .given .1))
+    (c .with-verbs .ensures))
     (λ c. search (then-refused, needs)))

@@ -27,14 +27,14 @@ accepted-requires c κs =
     let st = u16-or .before .before in
     let a = st .args in
     let P = st .pre in
-    let ks = kinds .kinds .ensures ∙ ap (λ (n : ℕ). kindsAt (a .s .now) n 7) (u16-or .u16-or .ensures .0) in
-    let sg = signatures .signatures .ensures ∙ ap (λ (n : ℕ). signaturesAt (a .s .now) n (a .p + 2)) (u16-or2 .u16-or2 .ensures .0) in (
+    let ks = kinds .kinds .ensures ∙ ap (λ (n : ℕ). kindsAt (a .policy .now) n 7) (u16-or .u16-or .ensures .0) in
+    let sg = signatures .signatures .ensures ∙ ap (λ (n : ℕ). signaturesAt (a .policy .now) n (a .second + 2)) (u16-or2 .u16-or2 .ensures .0) in (
       constants-within _ _ (P .1),
       verbs-within _ _ (P .1) _ (P .2),
       P .0,
       constants-counted _ _ (P .1) .most,
       verbs-counted _ _ (P .1) _ (P .2) .most,
-      rest-counted (a .s .now) _ (P .1) _ (P .2) _ _ ks sg _ (assertions .assertions .ensures) (c .enum-told .given .0 .0) (c .enum-told .given .1),
+      rest-counted (a .policy .now) _ (P .1) _ (P .2) _ _ ks sg _ (assertions .assertions .ensures) (c .enum-told .given .0 .0) (c .enum-told .given .1),
     )
 
 -- the assertions are in order: the policy is taken
@@ -49,9 +49,9 @@ returns c =
     let st = u16-or .before .before in
     let a = st .args in
     let P = st .pre in
-    let ks = kinds .kinds .ensures ∙ ap (λ (n : ℕ). kindsAt (a .s .now) n 7) (u16-or .u16-or .ensures .0) in
-    let sg = signatures .signatures .ensures ∙ ap (λ (n : ℕ). signaturesAt (a .s .now) n (a .p + 2)) (u16-or2 .u16-or2 .ensures .0) in
-    rest-taken (a .s .now) _ (P .1) _ (P .2) _ _ ks sg _ (assertions .assertions .ensures)
+    let ks = kinds .kinds .ensures ∙ ap (λ (n : ℕ). kindsAt (a .policy .now) n 7) (u16-or .u16-or .ensures .0) in
+    let sg = signatures .signatures .ensures ∙ ap (λ (n : ℕ). signaturesAt (a .policy .now) n (a .second + 2)) (u16-or2 .u16-or2 .ensures .0) in
+    rest-taken (a .policy .now) _ (P .1) _ (P .2) _ _ ks sg _ (assertions .assertions .ensures)
     (enum-told .enum-told .given .0 .0) (enum-told .enum-told .given .1) _ (c .accepted .ensures)
 
 -- one of them is not: it is refused
@@ -66,9 +66,9 @@ returns-2 c =
     let st = u16-or .before .before in
     let a = st .args in
     let P = st .pre in
-    let ks = kinds .kinds .ensures ∙ ap (λ (n : ℕ). kindsAt (a .s .now) n 7) (u16-or .u16-or .ensures .0) in
-    let sg = signatures .signatures .ensures ∙ ap (λ (n : ℕ). signaturesAt (a .s .now) n (a .p + 2)) (u16-or2 .u16-or2 .ensures .0) in
-    rest-refused (a .s .now) _ (P .1) _ (P .2) _ _ ks sg _ (assertions .assertions .ensures) _ _ (number .number .given .1) _ (c .refused .ensures)
+    let ks = kinds .kinds .ensures ∙ ap (λ (n : ℕ). kindsAt (a .policy .now) n 7) (u16-or .u16-or .ensures .0) in
+    let sg = signatures .signatures .ensures ∙ ap (λ (n : ℕ). signaturesAt (a .policy .now) n (a .second + 2)) (u16-or2 .u16-or2 .ensures .0) in
+    rest-refused (a .policy .now) _ (P .1) _ (P .2) _ _ ks sg _ (assertions .assertions .ensures) _ _ (number .number .given .1) _ (c .refused .ensures)
 
 pub with-verbs-spec : {M : Type 1} → statement M
 with-verbs-spec = tie.close (tie.spec

@@ -20,7 +20,7 @@ abbrev μ-loop : tie.MeasureT-loop
 
 pub put-assertions-spec : {M : Type 1} → statement M
 put-assertions-spec = tie.close (tie.spec Inv-loop μ-loop
-    (λ c. (omega arith, refl, omega arith, all-starts (assertionEnd (c .before .before .args .s .now)) _ _ _))
+    (λ c. (omega arith, refl, omega arith, all-starts (assertionEnd (c .before .before .args .policy .now)) _ _ _))
     (λ c. omega arith)
     (λ c. let h = c .before .loop .inv .1 in omega arith)
     (λ c. omega arith)
@@ -30,8 +30,10 @@ put-assertions-spec = tie.close (tie.spec Inv-loop μ-loop
     (λ c. omega arith)
     (λ c.
     let l = c .before .before .loop in
-    let s = c .before .before .before .before .before .args .s .now in
+    let s = c .before .before .before .before .before .args .policy .now in
     let next = left-starts (assertionEnd s) _ _ _ _ _ (omega arith) (assertion-next _ _ _ (c .u16-or .ensures .0)) in
     (omega arith, rw length-set (l .inv .1), omega arith, sym next ∙ l .inv .3))
     (λ c. c .before .loop .inv .1)
-    (λ c. let l = c .before .loop in sym (done-starts (assertionEnd (c .before .before .before .before .args .s .now)) _ _ _ _ _ (omega arith)) ∙ l .inv .3))
+    (λ c.
+    let l = c .before .loop in
+    sym (done-starts (assertionEnd (c .before .before .before .before .args .policy .now)) _ _ _ _ _ (omega arith)) ∙ l .inv .3))

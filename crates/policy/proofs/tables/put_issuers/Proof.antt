@@ -22,7 +22,7 @@ abbrev μ-loop : tie.MeasureT-loop
 
 pub put-issuers-spec : {M : Type 1} → statement M
 put-issuers-spec = tie.close (tie.spec Inv-loop μ-loop
-    (λ c. (omega arith, refl, omega arith, all-map (assertionEnd (c .before .before .args .s .now)) issuerAt _ _ _))
+    (λ c. (omega arith, refl, omega arith, all-map (assertionEnd (c .before .before .args .policy .now)) issuerAt _ _ _))
     (λ c. omega arith)
     (λ c. omega arith)
     (λ c. let h = c .before .loop .inv .1 in omega arith)
@@ -33,11 +33,11 @@ put-issuers-spec = tie.close (tie.spec Inv-loop μ-loop
     (λ c. omega arith)
     (λ c.
     let l = c .before .before .loop in
-    let s = c .before .before .before .before .before .args .s .now in
+    let s = c .before .before .before .before .before .args .policy .now in
     let next = left-map (assertionEnd s) issuerAt _ _ _ _ _ _ (omega arith) (assertion-next _ _ _ (c .u16-or .ensures .0)) (issuer-is _ _ refl) in
     (omega arith, rw length-set (l .inv .1), omega arith, sym next ∙ l .inv .3))
     (λ c. c .before .loop .inv .1)
     (λ c.
     let l = c .before .loop in
-    let s = c .before .before .before .before .args .s .now in
+    let s = c .before .before .before .before .args .policy .now in
     sym (done-map (assertionEnd s) issuerAt _ _ _ _ _ (omega arith)) ∙ l .inv .3))

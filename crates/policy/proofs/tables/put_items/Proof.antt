@@ -20,7 +20,7 @@ abbrev μ-loop : tie.MeasureT-loop
 
 pub put-items-spec : {M : Type 1} → statement M
 put-items-spec = tie.close (tie.spec Inv-loop μ-loop
-    (λ c. (omega arith, refl, omega arith, all-starts (itemEnd (c .before .before .args .s .now)) _ _ _))
+    (λ c. (omega arith, refl, omega arith, all-starts (itemEnd (c .before .before .args .policy .now)) _ _ _))
     (λ c. omega arith)
     (λ c. let h = c .before .loop .inv .1 in omega arith)
     (λ c. omega arith)
@@ -30,8 +30,8 @@ put-items-spec = tie.close (tie.spec Inv-loop μ-loop
     (λ c. omega arith)
     (λ c.
     let l = c .before .before .loop in
-    let s = c .before .before .before .before .before .args .s .now in
+    let s = c .before .before .before .before .before .args .policy .now in
     let next = left-starts (itemEnd s) _ _ _ _ _ (omega arith) (item-end _ _ _ (c .byte-or .ensures .0)) in
     (omega arith, rw length-set (l .inv .1), omega arith, sym next ∙ l .inv .3))
     (λ c. c .before .loop .inv .1)
-    (λ c. let l = c .before .loop in sym (done-starts (itemEnd (c .before .before .before .before .args .s .now)) _ _ _ _ _ (omega arith)) ∙ l .inv .3))
+    (λ c. let l = c .before .loop in sym (done-starts (itemEnd (c .before .before .before .before .args .policy .now)) _ _ _ _ _ (omega arith)) ∙ l .inv .3))

@@ -23,7 +23,7 @@ abbrev μ-loop : tie.MeasureT-loop
 
 pub put-kinds-spec : {M : Type 1} → statement M
 put-kinds-spec = tie.close (tie.spec Inv-loop μ-loop
-    (λ c. (omega arith, refl, omega arith, all-map (itemEnd (c .before .before .args .s .now)) (kindOf (c .before .before .args .s .now)) _ _ _))
+    (λ c. (omega arith, refl, omega arith, all-map (itemEnd (c .before .before .args .policy .now)) (kindOf (c .before .before .args .policy .now)) _ _ _))
     (λ c. omega arith)
     (λ c κs. omega arith)
     (λ c. let h = c .before .before .loop .inv .1 in omega arith)
@@ -34,12 +34,12 @@ put-kinds-spec = tie.close (tie.spec Inv-loop μ-loop
     (λ c. omega arith)
     (λ c.
     let l = c .before .before .before .loop in
-    let s = c .before .before .before .before .before .before .args .s .now in
+    let s = c .before .before .before .before .before .before .args .policy .now in
     let end = item-end _ _ _ (c .byte-or .ensures .0) in
     let next = left-map (itemEnd s) (kindOf s) _ _ _ _ _ _ (omega arith) end (kind-at _ _ _ (c .before .u8-or .ensures)) in
     (omega arith, rw length-set (l .inv .1), omega arith, sym next ∙ l .inv .3))
     (λ c. c .before .loop .inv .1)
     (λ c.
     let l = c .before .loop in
-    let s = c .before .before .before .before .args .s .now in
+    let s = c .before .before .before .before .args .policy .now in
     sym (done-map (itemEnd s) (kindOf s) _ _ _ _ _ (omega arith)) ∙ l .inv .3))

@@ -23,7 +23,7 @@ abbrev μ-loop : tie.MeasureT-loop
 
 pub put-rows-spec : {M : Type 1} → statement M
 put-rows-spec = tie.close (tie.spec Inv-loop μ-loop
-    (λ c. (omega arith, refl, omega arith, all-rows (itemEnd (c .before .before .args .s .now)) (rowAt (c .before .before .args .s .now)) _ _ _))
+    (λ c. (omega arith, refl, omega arith, all-rows (itemEnd (c .before .before .args .policy .now)) (rowAt (c .before .before .args .policy .now)) _ _ _))
     (λ c κs. omega arith)
     (λ c. let e : length (c .row .result) ≡ 4 = rw (c .row .ensures) (row-length _ _) in omega arith)
     (λ c. omega arith)
@@ -48,12 +48,12 @@ put-rows-spec = tie.close (tie.spec Inv-loop μ-loop
     (λ c. omega arith)
     (λ c.
     let l = c .before .before .before .loop in
-    let s = c .before .before .before .before .before .before .args .s .now in
+    let s = c .before .before .before .before .before .before .args .policy .now in
     let row = c .before .row .ensures in
     let next = left-rows (itemEnd s) (rowAt s) _ _ _ _ _ _ (omega arith) (item-end _ _ _ (c .byte-or .ensures .0)) row (rw row (row-length _ _)) in
     (omega arith, simp length-set (l .inv .1), omega arith, sym next ∙ l .inv .3))
     (λ c. c .before .loop .inv .1)
     (λ c.
     let l = c .before .loop in
-    let s = c .before .before .before .before .args .s .now in
+    let s = c .before .before .before .before .args .policy .now in
     sym (done-rows (itemEnd s) (rowAt s) _ _ _ _ _ (omega arith)) ∙ l .inv .3))
