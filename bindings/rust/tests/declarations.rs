@@ -114,7 +114,7 @@ fn numbers_are_the_same() {
     }
 }
 
-/// The fields of the report, each with its bits: `uint32_t side;` in C, `pub side: u32,` in Rust and in the engine.
+/// The fields of the report, each with its bits: `uint32_t side;` in C, `pub side: u32,` in Rust and in crate `outcome`.
 fn report_fields(text: &str, from: &str, to: &str) -> Vec<(String, String)> {
     let text = code(text);
     let body = text.split(from).nth(1).and_then(|rest| rest.split(to).next()).expect("the report");
@@ -135,7 +135,7 @@ fn the_report_is_the_same() {
     let header = report_fields(&read("host/secpal.h"), "typedef struct {", "} secpal_report");
     assert_eq!(header.len(), 7);
     assert_eq!(header, report_fields(&read("bindings/rust/src/raw.rs"), "pub struct Report {", "}"));
-    assert_eq!(header, report_fields(&read("crates/engine/src/lib.rt"), "pub struct Report {", "}"));
+    assert_eq!(header, report_fields(&read("crates/outcome/src/lib.rt"), "pub struct Report {", "}"));
 }
 
 #[test]
