@@ -13,8 +13,8 @@ use Rattle.model.proofs.DecisionFacts.{rounds-facts}
 use Rattle.outcome.specs.Reported.{reportOf}
 use Rattle.outcome.specs.declared.Outcome.{Outcome}
 use Rattle.outcome.specs.declared.Outcome.the-variants.{Allow, Deny, PolicyRefused, RequestRefused, TooManyFacts, TooManyAnswers}
-use Rattle.engine.specs.Numbers.{numbersOf}
-use Rattle.engine.specs.declared.Report as c
+use Rattle.outcome.specs.Numbers.{numbersOf}
+use Rattle.outcome.specs.declared.Report as c
 
 -- ---- at most 65,535 facts are reported, whatever the bytes
 

@@ -1,4 +1,6 @@
-// What a decision says, and the line that a program prints of it.
+// What a decision says, the line that a program prints of it, and its numbers for C.
+pub mod numbers;
+
 ghost use mathlib.Core.Path.{_≡_};
 ghost use mathlib.Core.List.{[], _++_};
 ghost use Prim.Native.Nat.{_+_, _≤_, _<_};
@@ -21,6 +23,21 @@ pub enum Outcome {
     TooManyFacts,
     // 9: the counts of facts and rounds
     TooManyAnswers(usize, usize),
+}
+
+// What the C interface returns: numbers alone.
+#[repr(C)]
+pub struct Report {
+    // 0 refused, 1 allow, 2 deny
+    pub decision: u32,
+    // 1 to 9, 0 with a decision
+    pub refusal: u32,
+    // 1 policy, 2 request, 0 none
+    pub side: u32,
+    pub facts: u32,
+    pub rounds: u32,
+    pub place: u64,
+    pub answers: u64,
 }
 
 // ---- each function writes to `out` from `at` on, and answers where what it wrote ends
