@@ -1,36 +1,42 @@
--- `marking::mark_reach` meets its contract: the marks that `reached` gives are those of the model's reach.
+-- `marking::mark_reach` meets its contract: all assertions are left, and the marks that `reached` gives are those of the model's reach.
 use mathlib.Core.Path.{_∙_}
-use native.Mathlib.Omega.{arith}
 use lib.ListN.{length}
 use Rattle.model.specs.Policies.{policyOf}
 use Rattle.model.specs.Deciding.{read}
 use Rattle.demands.specs.Lookups.{reachOf}
-use Rattle.deciding.proofs.Accepting.{accepted-answer}
-use Rattle.deciding.proofs.MarkLaws.{bytes-marks, reach-marks}
+use Rattle.deciding.proofs.Reaching.{all-left}
+use Rattle.deciding.proofs.MarkLaws.{bytes-marks}
 use borrow.Author.Needs.{needs}
 use Rattle.deciding.proofs.marking.mark_reach.Statement.{statement}
 use Rattle.deciding.proofs.marking.mark_reach.Tie as tie
 
+-- the entry, from the place before the reach
+abbrev entry : tie.After-left2 → tie.Start
+entry c = let lent = c .before .before in lent .before .before .before
+
+slice-aggregate-reached : tie.Need-slice-aggregate-reached
+slice-aggregate-reached c = let issuers = entry c .good .1 .0 .1 .1 .1 .1 .1 .1 .1 .1 in search (needs, issuers)
+
 reached-requires : tie.Need-reached-requires
-reached-requires c κs = let accepts = c .before .before .before .before .pre .0 .2 in (accepts .index, accepted-answer accepts)
+reached-requires c κs =
+    let p = entry c .pre in
+    let accepts = p .0 .2 in
+    ((p .0 .0, p .0 .1, policyOf (p .0 .0) .assertions, accepts, all-left accepts), p .1)
 
 returns : tie.Need-returns
 returns c =
     let mark = c .before .before in
     let reached = mark .before .before .before in
-    let asked = reached .before in
-    let known = asked .before .before .before in
-    let entry = known .before in
+    let args = entry (reached .before) .args in
     λ A q accepts.
-    let is = asked .asked .ensures (entry .args .policy .now) A q accepts (λ i. omega (arith, known .shared-slice-known .given i)) in
-    let marks = reach-marks accepts (asked .asked .result) (reached .reached .result) is (reached .reached .ensures) in
-    mark .mark .ensures ∙ bytes-marks (reachOf (read (policyOf A) q)) (reached .reached .result) marks (length (entry .args .marks .now)) 0
+    let marks = reached .reached .ensures A q (policyOf A .assertions) accepts (all-left accepts) in
+    mark .mark .ensures ∙ bytes-marks (reachOf (read (policyOf A) q)) (reached .reached .result) marks (length (args .marks .now)) 0
 
 pub mark-reach-spec : {M : Type 1} → statement M
 mark-reach-spec =
     tie.close
     (tie.spec
-    (λ c κs. search needs)
+    slice-aggregate-reached
     reached-requires
     (λ c. search needs)
     (λ c κs. search needs)
