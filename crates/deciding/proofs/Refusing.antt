@@ -105,7 +105,8 @@ module _ (policy request : List ℕ) (x : Index) (i : x ≡ policies.handedOut (
   pub request-call : (r .refusal ≡ 0 → ⊥) → (withdrawals facts answers : List ℕ)
       → (let l = lent policy request withdrawals facts answers in Call l (untouched (r .refusal) 2 (r .place) l))
   unfolding decision decisionOf
-  request-call z withdrawals facts answers = sym (ap (λ (t : Taken). decisionOf t (lent policy request withdrawals facts answers)) (request-taken z withdrawals))
+  request-call z withdrawals facts answers =
+      sym (ap (λ (t : Taken). decisionOf t (lent policy request withdrawals facts answers)) (request-taken z withdrawals))
 
 -- ---- the withdrawals
 

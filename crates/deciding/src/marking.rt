@@ -61,7 +61,8 @@ fn asked(
     marks: &mut [u8],
 ) -> Report
     requires { ⌜ ((A : Accepted) × (q : syntax.Request) × Takes (now policy) (now request) x r A q) ⌝ }
-    ensures numbers { λ n. ⌜ n ≡ refusalOf (whoseWords (slices (now (policy .entry)) (now (request .entry)) (now (withdrawals .entry))) (now (marks .entry))) ⌝ }
+    ensures numbers { λ n. ⌜ n
+        ≡ refusalOf (whoseWords (slices (now (policy .entry)) (now (request .entry)) (now (withdrawals .entry))) (now (marks .entry))) ⌝ }
     ensures marks { λ n. ⌜ now (marks .exit)
         ≡ whoseWords (slices (now (policy .entry)) (now (request .entry)) (now (withdrawals .entry))) (now (marks .entry)) .marks ⌝ }
 {
@@ -83,7 +84,8 @@ pub fn accepted(
     marks: &mut [u8],
 ) -> Report
     requires { ⌜ (x ≡ handedOut (readPolicy (now policy))) × (x .answer ≡ accepting.Accepted) ⌝ }
-    ensures numbers { λ n. ⌜ n ≡ refusalOf (whoseWords (slices (now (policy .entry)) (now (request .entry)) (now (withdrawals .entry))) (now (marks .entry))) ⌝ }
+    ensures numbers { λ n. ⌜ n
+        ≡ refusalOf (whoseWords (slices (now (policy .entry)) (now (request .entry)) (now (withdrawals .entry))) (now (marks .entry))) ⌝ }
     ensures marks { λ n. ⌜ now (marks .exit)
         ≡ whoseWords (slices (now (policy .entry)) (now (request .entry)) (now (withdrawals .entry))) (now (marks .entry)) .marks ⌝ }
 {

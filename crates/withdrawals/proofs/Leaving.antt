@@ -120,7 +120,8 @@ module _ (f : ℕ → ℕ → Bool) where
       next =
           ap (λ (n : ℕ). picked f (take n items) (take n first)) (add-one i)
           ∙ (ap₂ (λ (is js : List ℕ). picked f is js) (take-suc items i 0 (omega arith)) (take-suc first i 0 (omega arith))
-          ∙ (picked-append (take i items) (take i first) (getD items i 0) (getD first i 0) (length-take-le i items (omega arith) ∙ sym (length-take-le i first (omega arith)))
+          ∙ (picked-append (take i items) (take i first) (getD items i 0) (getD first i 0)
+          (length-take-le i items (omega arith) ∙ sym (length-take-le i first (omega arith)))
           ∙ ap (λ (j : ℕ). picked f (take i items) (take i first) ++ (only (f (getD items i 0) j) j ++ [])) (sym (K .later i (omega arith)))))
 
       -- it is removed

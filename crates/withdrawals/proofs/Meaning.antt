@@ -33,7 +33,8 @@ use Rattle.slices.specs.Steps.{step, thenStep, countRight, endedAt}
 use Rattle.slices.specs.Items.{itemsAt}
 use Rattle.slices.proofs.ListFacts.{Reads, list-is, list-got, contents-length}
 use Rattle.withdrawals.specs.declared.Withdrawals.{Withdrawals}
-use Rattle.withdrawals.specs.Reading.{refusal, handedOut, closedExpr, testClosed, testsClosed, closedAt, entryAsks, judgedBy, entryBy, entriesBy, listBy, told}
+use Rattle.withdrawals.specs.Reading.{refusal, handedOut, closedExpr, testClosed, testsClosed, closedAt, entryAsks, judgedBy, entryBy, entriesBy}
+use Rattle.withdrawals.specs.Reading.{listBy, told}
 use Rattle.withdrawals.specs.Left.{entriesAt}
 use Rattle.withdrawals.proofs.Steps.{form-within}
 
@@ -73,7 +74,8 @@ module _ (s : List ℕ) where
   unfolding testsClosed constraintsAt
   tests-closed zero p = refl
   tests-closed (suc n) p =
-      none-both (varsOf (exprAt s (p + 1)) ++ varsOf (exprAt s (p + 3))) (each (constraintsAt n s (p + 5)) varsTest) _ _ (test-closed p) (tests-closed n (p + 5))
+      none-both (varsOf (exprAt s (p + 1)) ++ varsOf (exprAt s (p + 3))) (each (constraintsAt n s (p + 5)) varsTest) _ _ (test-closed p)
+      (tests-closed n (p + 5))
 
   closed-is : (at : ℕ) → closedAt s at ≡ eqb (length (varsWithdrawal (withdrawalAt s at))) 0
   unfolding closedAt withdrawalAt
@@ -162,7 +164,8 @@ module _ {cs : List Constant} {vs : List Verb} {ks sg : List ℕ} (X : Tables cs
   entries-are (suc n) is at = ap (λ (t : Step). thenStep t (entriesBy ks s n)) (entry-is at (contents is))
       ∙ go (withdrawalItem cs s (contents is) at) (λ x e. entries-are n (is ++ record { at = at; of = x } ∷ []) e)
     where
-      go : (r : Reading Withdrawal) → ((x : Withdrawal) (e : ℕ) → entriesBy ks s n e ≡ step (itemsFrom (withdrawalItem cs s) n (is ++ record { at = at; of = x } ∷ []) e))
+      go : (r : Reading Withdrawal)
+          → ((x : Withdrawal) (e : ℕ) → entriesBy ks s n e ≡ step (itemsFrom (withdrawalItem cs s) n (is ++ record { at = at; of = x } ∷ []) e))
           → thenStep (step r) (entriesBy ks s n) ≡ step (andThen r (λ x e. itemsFrom (withdrawalItem cs s) n (is ++ record { at = at; of = x } ∷ []) e))
       go (got x e) h = h x e
       go (refused m p) h = refl
@@ -182,7 +185,8 @@ module _ {cs : List Constant} {vs : List Verb} {ks sg : List ℕ} (X : Tables cs
   list-step : listBy ks s ≡ step (andThen (read cs s) (λ ws e. ended s (contents ws) e))
   unfolding listBy choose andThen step
   list-step = rw (list-is s 0 maxWithdrawals (withdrawalItem cs s) headerBytes) (
-      ap (λ (t : Step). choose (countRight s 0 maxWithdrawals headerBytes) (thenStep t (endedAt s)) (Refused 3 headerBytes)) (entries-are (u16At s headerBytes) [] (headerBytes + 2))
+      ap (λ (t : Step). choose (countRight s 0 maxWithdrawals headerBytes) (thenStep t (endedAt s)) (Refused 3 headerBytes))
+      (entries-are (u16At s headerBytes) [] (headerBytes + 2))
       ∙ go (countRight s 0 maxWithdrawals headerBytes)
       )
     where

@@ -78,7 +78,10 @@ unfolding entryBy judgedBy choose
 entry-within ks s at y e d h = go (withdrawalForm s at) refl (sym d ∙ h)
   where
     go : (b : Bool) → withdrawalForm s at ≡ b → choose b (judgedBy ks s at) (Refused 3 at) ≡ Next e → e ≤ length s
-    go true f g = let i = judged-end (feed (entryAsks ks s at) nothing .ok) (closedAt s at) 10 5 at (withdrawalEnd s at) e g in let w = form-within s at f in omega arith
+    go true f g =
+        let i = judged-end (feed (entryAsks ks s at) nothing .ok) (closedAt s at) 10 5 at (withdrawalEnd s at) e g in
+        let w = form-within s at f in
+        omega arith
     go false f g = absurd (next-not 3 at e g)
 
 -- ---- what is handed out

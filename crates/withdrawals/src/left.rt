@@ -132,7 +132,8 @@ fn stays(
 ) -> bool
     requires { ⌜ (length (now policy) ≤ longest) × (of .constants ≤ length (now constants)) × (of .entries ≤ 256) × (item + 8 ≤ farthest)
         × (issuer + 8 ≤ farthest) ⌝ }
-    ensures { λ r. ⌜ r ≡ staysAt (worldOf (now (policy .entry)) (now (constants .entry)) of) (entriesOf (now (s .entry)) of) (now (policy .entry)) item issuer ⌝ }
+    ensures { λ r. ⌜ r ≡ staysAt (worldOf (now (policy .entry)) (now (constants .entry)) of) (entriesOf (now (s .entry)) of) (now (policy .entry)) item
+        issuer ⌝ }
 {
     let serial = wire::u32_or(policy, item + ITEM_SERIAL);
     !is_removed(

@@ -31,8 +31,8 @@ returns-2 : tie.Need-returns-2
 returns-2 c =
     let test = c .before in
     let version = test .before .before in (
-      means-length _ _ _ (via-not′ (version .before .version-there .ensures) (version .if1 .left)) (via-not (test .before .length-right .ensures .0) (test .if2 .taken))
-          (c .refused2 .ensures),
+      means-length _ _ _ (via-not′ (version .before .version-there .ensures) (version .if1 .left))
+          (via-not (test .before .length-right .ensures .0) (test .if2 .taken)) (c .refused2 .ensures),
       λ e. not-accepted _ 2 1 (c .refused2 .ensures) (λ z. omega arith) e,
     )
 

@@ -13,16 +13,24 @@ use Rattle.withdrawals.proofs.left.left.Statement.{statement}
 use Rattle.withdrawals.proofs.left.left.Tie as tie
 
 abbrev Inv-loop : tie.InvT-loop
-Inv-loop issuers₀ items policy constants s of i₀ k₀ issuers i k = Keeping (staysAt (worldOf policy constants of) (entriesOf s of) policy) items issuers₀ (of .assertions) i k issuers
+Inv-loop issuers₀ items policy constants s of i₀ k₀ issuers i k =
+    Keeping (staysAt (worldOf policy constants of) (entriesOf s of) policy) items issuers₀ (of .assertions) i k issuers
 
 abbrev μ-loop : tie.MeasureT-loop
 μ-loop issuers₀ items policy constants s of i₀ k₀ issuers i k = of .assertions - i
 
+-- the entry, from the test for entries and from the loop
+abbrev begun : tie.After-struct-known Inv-loop μ-loop → tie.Start Inv-loop μ-loop
+begun c = let read = c .before .before .before in read .before .before .before
+
+abbrev entry : tie.At-loop Inv-loop μ-loop → tie.Start Inv-loop μ-loop
+entry c = begun (c .before .before)
+
 returns : tie.Need-returns Inv-loop μ-loop
 returns c =
-    let entry = c .before .before .before .before .before .before .before in
-    let lent = entry .pre in
-    let args = entry .args in
+    let start = begun (c .before) in
+    let lent = start .pre in
+    let args = start .args in
     let none = none-removed (worldOf (args .policy .now) (args .constants .now) (args .of)) (args .policy .now) (args .s .now) _ (c .if1 .taken) in (
       omega arith,
       refl,
@@ -32,7 +40,7 @@ returns c =
 
 loop-holds : tie.Need-loop-holds Inv-loop μ-loop
 loop-holds c =
-    let lent = c .before .before .before .before .before .before .before .pre in
+    let lent = begun (c .before) .pre in
     keeping-start _ (lent .listed) (lent .issued)
 
 mul-issuer : tie.Need-mul-issuer Inv-loop μ-loop
@@ -42,7 +50,7 @@ slice-read-issuer : tie.Need-slice-read-issuer Inv-loop μ-loop
 slice-read-issuer c =
     let test = c .before in
     let loop = test .before .before in
-    let lent = loop .before .before .before .before .before .before .before .before .pre in
+    let lent = entry loop .pre in
     omega (arith, test .if2 .taken, lent .issued, loop .loop .inv .long)
 
 mul-stays : tie.Need-mul-stays Inv-loop μ-loop
@@ -52,14 +60,14 @@ shared-slice-read-stays : tie.Need-shared-slice-read-stays Inv-loop μ-loop
 shared-slice-read-stays c =
     let test = c .before .before in
     let loop = test .before .before in
-    let lent = loop .before .before .before .before .before .before .before .before .pre in
+    let lent = entry loop .pre in
     omega (arith, test .if2 .taken, lent .listed)
 
 stays-requires : tie.Need-stays-requires Inv-loop μ-loop
 stays-requires c κs =
     let test = c .before .before in
     let loop = test .before .before in
-    let lent = loop .before .before .before .before .before .before .before .before .pre in
+    let lent = entry loop .pre in
     let near = lent .near (loop .loop .i) (test .if2 .taken) in
     (lent .short, lent .named, lent .few, near .0, rw (loop .loop .inv .later (loop .loop .i) (omega arith)) (near .1))
 
@@ -74,7 +82,7 @@ loop-again c =
     let stays = c .before in
     let test = stays .before .before .before in
     let loop = test .before .before in
-    let lent = loop .before .before .before .before .before .before .before .before .pre in
+    let lent = entry loop .pre in
     keeping-passed _ (lent .listed) (lent .issued) (loop .loop .inv) (test .if2 .taken) (sym (stays .stays .ensures) ∙ not-true _ (c .if3 .taken))
 
 mul-issuers : tie.Need-mul-issuers Inv-loop μ-loop
@@ -84,7 +92,7 @@ slice-write-issuers : tie.Need-slice-write-issuers Inv-loop μ-loop
 slice-write-issuers c =
     let test = c .before .before .before .before in
     let loop = test .before .before in
-    let lent = loop .before .before .before .before .before .before .before .before .pre in
+    let lent = entry loop .pre in
     omega (arith, test .if2 .taken, lent .issued, loop .loop .inv .long, loop .loop .inv .fewer)
 
 add-k : tie.Need-add-k Inv-loop μ-loop
@@ -104,7 +112,7 @@ loop-again-2 c =
     let stays = c .before in
     let test = stays .before .before .before in
     let loop = test .before .before in
-    let lent = loop .before .before .before .before .before .before .before .before .pre in
+    let lent = entry loop .pre in
     keeping-went _ (lent .listed) (lent .issued) (loop .loop .inv) (test .if2 .taken) (sym (stays .stays .ensures) ∙ not-false _ (c .if3 .left))
 
 same-length : tie.Need-same-length Inv-loop μ-loop
@@ -114,7 +122,7 @@ returns-2 : tie.Need-returns-2 Inv-loop μ-loop
 returns-2 c =
     let loop = c .before .before in
     let K = loop .loop .inv in
-    let args = loop .before .before .before .before .before .before .before .before .args in
+    let args = entry loop .args in
     let all : loop .loop .i ≡ args .of .assertions = omega (arith, c .if2 .left, K .within) in
     (omega (arith, K .fewer, all), K .long, rw all at (K .kept))
 
