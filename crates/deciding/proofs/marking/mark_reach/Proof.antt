@@ -28,8 +28,8 @@ reached-requires c κs =
     let left = c .before .before in
     let start = entry (left .before) in
     let p = start .pre in
-    ((p .0, p .1, leftIn (read (policyOf (p .0)) (p .1) (p .2)), p .3 .accepts, left .left3 .ensures (start .args .request .now) (p .0) (p .1) (p .2) (p .3) (p .4)),
-    p .3 .short)
+    let leaves = left .left3 .ensures (start .args .request .now) (p .0) (p .1) (p .2) (p .3) (p .4) in
+    ((p .0, p .1, leftIn (read (policyOf (p .0)) (p .1) (p .2)), p .3 .accepts, leaves), p .3 .short)
 
 slice-aggregate-mark : tie.Need-slice-aggregate-mark
 slice-aggregate-mark c = search needs
