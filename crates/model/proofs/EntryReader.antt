@@ -123,5 +123,6 @@ module _ (s : List ℕ) (at : ℕ) where
 pub withdrawals-is : (cs : List Constant) (s : List ℕ) → readWithdrawals cs s ≡ computedWithdrawals cs s
 unfolding readWithdrawals computedWithdrawals
 withdrawals-is cs s = slice-is version s _ _
-    (then-same _ _ (list-is s (withdrawalItem s cs) (entries.withdrawalItem cs s) (λ earlier p. withdrawalItem-is s p cs earlier) 0 maxWithdrawals 0 headerBytes)
+    (then-same _ _
+    (list-is s (withdrawalItem s cs) (entries.withdrawalItem cs s) (λ earlier p. withdrawalItem-is s p cs earlier) 0 maxWithdrawals 0 headerBytes)
     (λ ws p. ended-is s (contents ws) 0 p))

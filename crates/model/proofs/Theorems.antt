@@ -25,7 +25,8 @@ use Rattle.model.specs.Reached.{issuedIn, reach, counting}
 use Rattle.model.specs.Deciding.{outcome, decide, read, countedIn}
 use Rattle.model.specs.Decision.{Slices, Lent, allow, deny, refusal, Report, capacity, room, atFront, word, reported, decision}
 use Rattle.model.specs.Theorems as Q
-use Rattle.model.specs.Theorems.{Inputs, ReadAs, AskedAs, Adds, Longer, withPolicy, withWithdrawals, withoutEntries, IsDecision, ListedIn, answerIn, MeantBy}
+use Rattle.model.specs.Theorems.{Inputs, ReadAs, AskedAs, Adds, Longer, withPolicy, withWithdrawals, withoutEntries, IsDecision}
+use Rattle.model.specs.Theorems.{ListedIn, answerIn, MeantBy}
 use Rattle.model.proofs.ListFacts.{and-of, keep-of, keep-in, member-of, member-in}
 use Rattle.model.proofs.ClosureFacts.{derives↔within, derives-more}
 use Rattle.model.proofs.RoundFacts as S
@@ -192,7 +193,8 @@ module _ (R : Read) (L : Policy) (cs : L .constants ≡ R .policy .constants) (v
   same-world = λ i. record { constants = cs i; verbs = vs i; today = R .request .today }
 
 -- reports tell nothing of the slices
-same-buffers : (o : Outcome) (l : Lent) (s : Slices) → reported o (record { slices = s; factBuffer = l .factBuffer; answerBuffer = l .answerBuffer }) ≡ reported o l
+same-buffers : (o : Outcome) (l : Lent) (s : Slices)
+    → reported o (record { slices = s; factBuffer = l .factBuffer; answerBuffer = l .answerBuffer }) ≡ reported o l
 same-buffers tooManyFacts l s = refl
 same-buffers (tooManyAnswers F) l s = refl
 same-buffers (decided F A) l s = refl

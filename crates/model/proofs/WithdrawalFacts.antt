@@ -57,7 +57,10 @@ module _ (W : World) (a : Assertion) where
   stays↔ : (ws : List Withdrawal) → T (stays W ws a) ↔ Stays ws
   stays↔ ws = (
     λ t w m e f h. not-in (any (removes W (a .issuer) (a .serial)) ws) t (any-in (removes W (a .issuer) (a .serial)) m (removes-in w e f h)),
-    λ h. not-of (any (removes W (a .issuer) (a .serial)) ws) (λ t. let r = any-of (removes W (a .issuer) (a .serial)) ws t in let x = removes-of (r .0) (r .2) in h (r .0) (r .1) (x .0) (x .1) (x .2)),
+    λ h. not-of (any (removes W (a .issuer) (a .serial)) ws) (λ t.
+        let r = any-of (removes W (a .issuer) (a .serial)) ws t in
+        let x = removes-of (r .0) (r .2) in
+        h (r .0) (r .1) (x .0) (x .1) (x .2)),
   )
     where
       not-in : (b : Bool) → T (not b) → T b → ⊥

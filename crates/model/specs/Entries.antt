@@ -1,4 +1,5 @@
--- Computed: the readers of the added slices by offsets, entry by entry, as the code goes (`proofs/EntryReader`: they are those of `Layout` for every byte list).
+-- Computed: the readers of the added slices by offsets, entry by entry, as the code goes (`proofs/EntryReader`: they are those of `Layout` for every byte
+-- list).
 use Prim.Native.Nat.{ℕ, _+_, _*_}
 use mathlib.Core.List.{List}
 use mathlib.Core.Bool.{Bool, false}
