@@ -142,14 +142,14 @@ static double reported_ms(const char *path) {
     return seconds * 1e3;
 }
 
-clingo_report clingo_run(const uint8_t *policy, const uint8_t *request, const char *path) {
+clingo_report clingo_run(const slices *given, const char *path) {
     static program g;
     FILE *out = fopen(path, "w");
     if (!out) {
         perror(path);
         exit(2);
     }
-    read_program(&g, policy, request);
+    read_program(&g, given);
     print_program(out, &g);
     fclose(out);
     clingo_report r = {count_facts(path), 1e12};

@@ -2,7 +2,7 @@
 #ifndef ASP_H
 #define ASP_H
 
-#include <stdint.h>
+#include "bench.h"
 
 enum { CLINGO_TURNS = 5 };
 
@@ -14,7 +14,7 @@ typedef struct {
 /* What clingo_run's milliseconds are, in words. */
 extern const char *const clingo_time;
 
-/* Runs clingo on an accepted policy and request, by way of the file `path`; ends the program where clingo fails. */
-clingo_report clingo_run(const uint8_t *policy, const uint8_t *request, const char *path);
+/* Runs clingo on accepted slices, by way of the file `path`; ends the program where clingo fails. */
+clingo_report clingo_run(const slices *given, const char *path);
 
 #endif

@@ -22,10 +22,11 @@ int main(int argc, char **argv) {
     }
     read_file(&policy, argv[1], "policy.bin");
     read_file(&request, argv[1], "otto.bin");
+    slices s = {{policy.bytes, policy.len}, {request.bytes, request.len}, no_entries};
     double best = 1e9, start = now_us();
     for (int i = 0; i < TURNS; i++) {
         double from = now_us();
-        secpal_report r = secpal_decide(policy.bytes, policy.len, request.bytes, request.len, facts, sizeof facts, answers, sizeof answers);
+        secpal_report r = decide(&s, facts, sizeof facts, answers, sizeof answers);
         double took = now_us() - from;
         if (r.decision != SECPAL_ALLOW || r.facts != 10) return 1;
         if (took < best) best = took;

@@ -6,10 +6,17 @@
 #include <string.h>
 #include <sys/stat.h>
 #include <time.h>
+#include <unistd.h>
+
+/* The path DIR/NAME, until the next call. */
+static const char *path_in(const char *dir, const char *name) {
+    static char path[4096];
+    snprintf(path, sizeof path, "%s/%s", dir, name);
+    return path;
+}
 
 static FILE *open_in(const char *dir, const char *name, const char *mode) {
-    char path[4096];
-    snprintf(path, sizeof path, "%s/%s", dir, name);
+    const char *path = path_in(dir, name);
     FILE *in = fopen(path, mode);
     if (!in) {
         perror(path);
@@ -22,6 +29,22 @@ void read_file(file *f, const char *dir, const char *name) {
     FILE *in = open_in(dir, name, "rb");
     f->len = fread(f->bytes, 1, FILE_LEN, in);
     fclose(in);
+}
+
+static secpal_slice read_slice(file *f, const char *dir, const char *name) {
+    read_file(f, dir, name);
+    return (secpal_slice){f->bytes, f->len};
+}
+
+/* Entries may be left out. */
+static secpal_slice read_entries(file *f, const char *dir, const char *name) {
+    return access(path_in(dir, name), F_OK) == 0 ? read_slice(f, dir, name) : no_entries;
+}
+
+slices read_slices(const char *dir) {
+    static file policy, request, withdrawals;
+    return (slices){read_slice(&policy, dir, "policy.bin"), read_slice(&request, dir, "request.bin"),
+                    read_entries(&withdrawals, dir, "withdrawals.bin")};
 }
 
 void write_file(const char *dir, const char *name, const uint8_t *bytes, size_t len) {

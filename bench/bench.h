@@ -15,8 +15,19 @@ typedef struct {
     uint8_t bytes[FILE_LEN];
 } file;
 
+/* What a decision reads. */
+typedef struct {
+    secpal_slice policy, request, withdrawals;
+} slices;
+
+/* A slice without entries. */
+static const secpal_slice no_entries = {SECPAL_NONE, SECPAL_NONE_LEN};
+
 /* Reads DIR/NAME; ends the program where that fails. */
 void read_file(file *f, const char *dir, const char *name);
+
+/* A folder's policy.bin and request.bin, and withdrawals.bin where it has one; until the next call. */
+slices read_slices(const char *dir);
 
 /* Writes DIR/NAME, and makes the folder where it is missing; ends the program where that fails. */
 void write_file(const char *dir, const char *name, const uint8_t *bytes, size_t len);
@@ -26,5 +37,11 @@ const char *base_name(const char *path);
 
 /* Milliseconds of processor time that this process has had: other programs on the machine count little. */
 double clock_ms(void);
+
+/* The engine's decision. */
+static inline secpal_report decide(const slices *s, uint8_t *facts, size_t facts_len, uint8_t *answers, size_t answers_len) {
+    return secpal_decide(s->policy.data, s->policy.len, s->request.data, s->request.len, s->withdrawals.data, s->withdrawals.len, facts, facts_len,
+                         answers, answers_len);
+}
 
 #endif

@@ -115,12 +115,13 @@ static int row(const family *f, unsigned size) {
     f->write(size);
     ended(&policy);
     ask();
-    peer_report peer = peer_derive(policy.bytes, request.bytes, peer_facts, FACTS_LEN);
+    slices s = {{policy.bytes, policy.len}, {request.bytes, request.len}, no_entries};
+    peer_report peer = peer_derive(&s, peer_facts, FACTS_LEN);
     secpal_report engine = {0};
     double best = 1e12;
     for (int i = 0; i < TURNS; i++) {
         double from = clock_ms();
-        engine = secpal_decide(policy.bytes, policy.len, request.bytes, request.len, facts, FACTS_LEN, answers, ANSWERS_LEN);
+        engine = decide(&s, facts, FACTS_LEN, answers, ANSWERS_LEN);
         double took = clock_ms() - from;
         if (took < best) best = took;
     }

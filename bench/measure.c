@@ -9,7 +9,6 @@
 
 enum { TURNS = 15 };
 
-static file policy, request;
 static uint8_t facts[FACTS_LEN], answers[ANSWERS_LEN], peer_facts[FACTS_LEN];
 
 typedef struct {
@@ -23,13 +22,13 @@ static double least(double a, double b) {
 }
 
 /* Engine and peer in turn. */
-static result measure(void) {
+static result measure(const slices *s) {
     result r = {.engine_ms = 1e12, .peer_ms = 1e12};
     for (int i = 0; i < TURNS; i++) {
         double start = clock_ms();
-        r.engine = secpal_decide(policy.bytes, policy.len, request.bytes, request.len, facts, FACTS_LEN, answers, ANSWERS_LEN);
+        r.engine = decide(s, facts, FACTS_LEN, answers, ANSWERS_LEN);
         double middle = clock_ms();
-        r.peer = peer_derive(policy.bytes, request.bytes, peer_facts, FACTS_LEN);
+        r.peer = peer_derive(s, peer_facts, FACTS_LEN);
         double end = clock_ms();
         r.engine_ms = least(r.engine_ms, middle - start);
         r.peer_ms = least(r.peer_ms, end - middle);
@@ -48,15 +47,14 @@ static const char *fault(const result *r) {
 }
 
 static int row(const char *dir, bool with_clingo, const char *scratch) {
-    read_file(&policy, dir, "policy.bin");
-    read_file(&request, dir, "request.bin");
-    result r = measure();
+    slices s = read_slices(dir);
+    result r = measure(&s);
     const char *wrong = fault(&r);
     printf("| %s | %u | %u | %.3f | %.3f | %.2f |", base_name(dir), r.engine.facts, r.engine.rounds, r.engine_ms, r.peer_ms, r.engine_ms / r.peer_ms);
     if (with_clingo && (*wrong || r.engine.refusal != 0)) {
         printf(" |");
     } else if (with_clingo) {
-        clingo_report c = clingo_run(policy.bytes, request.bytes, scratch);
+        clingo_report c = clingo_run(&s, scratch);
         printf(" %.0f |", c.ms);
         if (c.facts != r.engine.facts) wrong = "clingo's count of facts differs";
     }

@@ -1,9 +1,8 @@
-/* One decision of the engine on a folder's policy and request, with what it took: for policies on which a limit of time must be set from outside. */
+/* One decision of the engine on what stands in a folder, with what it took: for policies on which a limit of time must be set from outside. */
 #include "bench.h"
 
 #include <stdio.h>
 
-static file policy, request;
 static uint8_t facts[FACTS_LEN], answers[ANSWERS_LEN];
 
 int main(int argc, char **argv) {
@@ -12,15 +11,15 @@ int main(int argc, char **argv) {
         fprintf(stderr, "usage: once FOLDER\n");
         return 2;
     }
-    read_file(&policy, argv[1], "policy.bin");
-    read_file(&request, argv[1], "request.bin");
+    slices s = read_slices(argv[1]), asked_nothing = s;
     /* A request of no bytes is refused at once, on the request's side if the policy is accepted. */
-    if (secpal_decide(policy.bytes, policy.len, request.bytes, 0, facts, FACTS_LEN, answers, ANSWERS_LEN).side != 2) {
+    asked_nothing.request.len = 0;
+    if (decide(&asked_nothing, facts, FACTS_LEN, answers, ANSWERS_LEN).side != SECPAL_SIDE_REQUEST) {
         fprintf(stderr, "once: %s: the policy is refused\n", argv[1]);
         return 1;
     }
     double start = clock_ms();
-    secpal_report r = secpal_decide(policy.bytes, policy.len, request.bytes, request.len, facts, FACTS_LEN, answers, ANSWERS_LEN);
+    secpal_report r = decide(&s, facts, FACTS_LEN, answers, ANSWERS_LEN);
     double took = clock_ms() - start;
     printf("| %s | %s", base_name(argv[1]), word[r.decision]);
     if (r.decision == 0) printf(" %u", r.refusal);

@@ -2,9 +2,9 @@
 #ifndef PEER_H
 #define PEER_H
 
+#include "bench.h"
+
 #include <stdbool.h>
-#include <stddef.h>
-#include <stdint.h>
 
 /* What a derivation had to do, whoever does it: facts given by a rule, known ones too, and look-ups of facts by what is known of them. */
 typedef struct {
@@ -17,7 +17,7 @@ typedef struct {
     peer_work work;
 } peer_report;
 
-/* The fact table of an accepted policy and request in the lent buffer, then 0. */
-peer_report peer_derive(const uint8_t *policy, const uint8_t *request, uint8_t *facts, size_t facts_len);
+/* The fact table of accepted slices in the lent buffer, then 0. */
+peer_report peer_derive(const slices *given, uint8_t *facts, size_t facts_len);
 
 #endif

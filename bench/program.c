@@ -1,4 +1,4 @@
-/* Reads an accepted policy and request; nothing is checked. */
+/* Reads accepted slices; nothing is checked. */
 #include "program.h"
 
 #include <string.h>
@@ -56,6 +56,7 @@ static const uint8_t *read_verb(program *g, uint32_t v, const uint8_t *p) {
 
 static const uint8_t *read_rule(const program *g, rule *r, const uint8_t *p) {
     memset(r->kind, 0, sizeof r->kind);
+    r->serial = four(p + 2);
     r->issuer = (uint8_t)two(p + 6);
     p = read_fact(g, r, r->head, p + 8);
     r->bodies = *p++;
@@ -104,8 +105,27 @@ static void reach_on(program *g) {
     } while (after != before);
 }
 
-void read_program(program *g, const uint8_t *policy, const uint8_t *request) {
-    const uint8_t *p = policy + 7;
+/* Keeps the rules that are not of an issuer and a serial. */
+static void keep_others(program *g, uint8_t issuer, uint32_t serial) {
+    uint32_t kept = 0;
+    for (uint32_t i = 0; i < g->rules; i++)
+        if (g->rule[i].issuer != issuer || g->rule[i].serial != serial) g->rule[kept++] = g->rule[i];
+    g->rules = kept;
+}
+
+static void withdraw(program *g, const uint8_t *withdrawals) {
+    const uint8_t *p = withdrawals + 7;
+    for (unsigned entries = two(withdrawals + 5); entries > 0; entries--) {
+        const uint8_t *entry = p;
+        bool all_hold = true;
+        p += 7;
+        for (unsigned tests = entry[6]; tests > 0; tests--, p += 5) all_hold = all_hold && holds(g, p[0], two(p + 1), two(p + 3));
+        if (all_hold) keep_others(g, (uint8_t)two(entry), four(entry + 2));
+    }
+}
+
+void read_program(program *g, const slices *given) {
+    const uint8_t *policy = given->policy.data, *request = given->request.data, *p = policy + 7;
     g->constants = two(policy + 5);
     for (uint32_t i = 0; i < g->constants; i++) p = read_constant(&g->constant[i], p);
     g->verbs = two(p);
@@ -118,6 +138,7 @@ void read_program(program *g, const uint8_t *policy, const uint8_t *request) {
     for (uint32_t i = 0; i < g->rules; i++) p = read_rule(g, &g->rule[i], p);
     memset(g->reached, 0, sizeof g->reached);
     g->today = four(request + 5);
+    withdraw(g, given->withdrawals.data);
     reach_asked(g, request + 9);
     reach_on(g);
     uint32_t kept = 0;

@@ -1,10 +1,10 @@
-/* An accepted policy as plain C data: its constants, and the assertions that count for a request. */
+/* An accepted policy as plain C data: its constants, and the assertions that count for a request and are not withdrawn. */
 #ifndef PROGRAM_H
 #define PROGRAM_H
 
+#include "bench.h"
+
 #include <stdbool.h>
-#include <stddef.h>
-#include <stdint.h>
 
 enum { PRINCIPAL = 1, THING = 2, DAY = 3, QUANTITY = 4 };
 enum { TODAY = 0x4000, VARIABLE = 0x8000 };
@@ -23,6 +23,7 @@ typedef struct {
 } test;
 
 typedef struct {
+    uint32_t serial;
     uint8_t issuer, bodies, tests;
     uint8_t kind[8]; /* of each variable, 0 where it has no place in head and body */
     uint16_t head[FIELDS], body[4][FIELDS];
@@ -37,8 +38,8 @@ typedef struct {
     rule rule[256];
 } program;
 
-/* Fills in the program of a policy and a request, which must be accepted ones. */
-void read_program(program *g, const uint8_t *policy, const uint8_t *request);
+/* Fills in the program of slices, which must be accepted ones. */
+void read_program(program *g, const slices *given);
 
 /* The day one year after, by the calendar. */
 uint32_t year_after(uint32_t day);

@@ -7,7 +7,7 @@
 
 enum { TURNS = 15, SAYS = 1, TEST = 2, ALL = 3, IS_FITTER = 1, MAY_ENTER = 5, MAY_RELIEVE = 6, DOOR = 56 };
 
-static file policy, given;
+static slices given;
 static writer request;
 static uint8_t facts[FACTS_LEN], answers[ANSWERS_LEN];
 
@@ -18,8 +18,9 @@ typedef struct {
 
 /* The folder's own request. */
 static void own(void) {
-    memcpy(request.bytes + request.len, given.bytes + 9, given.len - 9);
-    request.len += given.len - 9;
+    size_t len = given.request.len - SECPAL_REQUEST_NODE;
+    memcpy(request.bytes + request.len, given.request.data + SECPAL_REQUEST_NODE, len);
+    request.len += len;
 }
 
 /* v0 may relieve v1 at a door, and v1 may enter there: for w4_4k. */
@@ -59,9 +60,10 @@ static result timed(void (*node)(void), int denied) {
     }
     node();
     ended(&request);
+    slices s = {given.policy, {request.bytes, request.len}, given.withdrawals};
     for (int i = 0; i < TURNS; i++) {
         double start = clock_ms();
-        r.report = secpal_decide(policy.bytes, policy.len, request.bytes, request.len, facts, FACTS_LEN, answers, ANSWERS_LEN);
+        r.report = decide(&s, facts, FACTS_LEN, answers, ANSWERS_LEN);
         double ms = clock_ms() - start;
         if (ms < r.ms) r.ms = ms;
     }
@@ -72,8 +74,7 @@ static result timed(void (*node)(void), int denied) {
 static int row(const char *root, const char *name, const char *what, void (*node)(void)) {
     char dir[4096];
     snprintf(dir, sizeof dir, "%s/%s", root, name);
-    read_file(&policy, dir, "policy.bin");
-    read_file(&given, dir, "request.bin");
+    given = read_slices(dir);
     result asked = timed(node, 0), denied = timed(node, 1);
     printf("| %s | %s | %u | %u | %.3f | %.3f | %.3f |\n", name, what, asked.report.facts, (unsigned)asked.report.answers, asked.ms, denied.ms,
            asked.ms - denied.ms);

@@ -1,4 +1,4 @@
-/* Writes the bytes of policies and requests. */
+/* Writes the bytes of policies, requests and withdrawals. */
 #include "writer.h"
 
 #include <stdio.h>
@@ -73,16 +73,27 @@ void verb(writer *w, const char *label, unsigned arity, const uint8_t *kinds) {
     put_text(w, label);
 }
 
-void said(writer *w, unsigned issuer) {
+void said_under(writer *w, unsigned issuer, unsigned serial) {
     counted(w);
     w->item_at = w->len;
     put_two(w, 0);
-    put_four(w, 0);
+    put_four(w, serial);
     put_two(w, issuer);
+}
+
+void said(writer *w, unsigned issuer) {
+    said_under(w, issuer, 0);
 }
 
 void closed(writer *w) {
     set_two(w, w->item_at, w->len - w->item_at - 2);
+}
+
+void withdrawn(writer *w, unsigned issuer, unsigned serial, unsigned tests) {
+    counted(w);
+    put_two(w, issuer);
+    put_four(w, serial);
+    put_one(w, tests);
 }
 
 void fact(writer *w, unsigned subject, unsigned verb, unsigned arity, unsigned a, unsigned b, unsigned c) {

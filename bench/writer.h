@@ -1,4 +1,4 @@
-/* Writes the bytes of policies and requests. */
+/* Writes the bytes of policies, requests and withdrawals. */
 #ifndef WRITER_H
 #define WRITER_H
 
@@ -29,9 +29,13 @@ void labelled(writer *w, unsigned kind, const char *letters, unsigned number);
 void numbered(writer *w, unsigned kind, unsigned value);
 void verb(writer *w, const char *label, unsigned arity, const uint8_t *kinds);
 
-/* An assertion: said() opens it, then come the head, counted body facts and counted tests, and closed() ends it. */
+/* An assertion: said() opens it, with serial 0, then come the head, counted body facts and counted tests, and closed() ends it. */
 void said(writer *w, unsigned issuer);
+void said_under(writer *w, unsigned issuer, unsigned serial);
 void closed(writer *w);
+
+/* An entry of withdrawals; its tests follow. */
+void withdrawn(writer *w, unsigned issuer, unsigned serial, unsigned tests);
 
 /* A flat fact with the verb's parameters, and a test. */
 void fact(writer *w, unsigned subject, unsigned verb, unsigned arity, unsigned a, unsigned b, unsigned c);

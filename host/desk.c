@@ -1,6 +1,7 @@
 /*
- * A release desk's host to start from: desk [--facts] POLICY REQUEST decides the request under the policy and says what came of it, in words;
- * with --facts also every derived fact, by round. Exit status: 0 allow, 1 deny, 2 refused or an error, so that `desk P Q && release` is right.
+ * A release desk's host to start from: desk [--facts] POLICY REQUEST [WITHDRAWALS] decides the request under the policy, without the statements that
+ * are withdrawn, and says what came of it, in words; with --facts also every derived fact, by round. Exit status: 0 allow, 1 deny, 2 refused or an
+ * error, so that `desk P Q && release` is right.
  */
 #include <stdio.h>
 #include <stdlib.h>
@@ -8,8 +9,8 @@
 
 #include "secpal.h"
 
-static uint8_t policy[65536], request[65536], facts[SECPAL_RECORD * SECPAL_RECORDS], answers[65536];
-static size_t policy_len, request_len;
+static uint8_t policy[65536], request[65536], withdrawals[65536], facts[SECPAL_RECORD * SECPAL_RECORDS], answers[65536];
+static size_t policy_len, request_len, withdrawals_len;
 
 static const char *const refusals[] = {
     "",
@@ -22,8 +23,9 @@ static const char *const refusals[] = {
     "the request is not safe",
     "more facts are derivable than there is room for",
     "there are more answers than there is room for",
+    "an entry has a variable",
 };
-static const char *const sides[] = {"", " in the policy", " in the request"};
+static const char *const sides[] = {"", " in the policy", " in the request", " in the withdrawals"};
 
 static size_t load(const char *path, uint8_t *to, size_t room)
 {
@@ -35,6 +37,17 @@ static size_t load(const char *path, uint8_t *to, size_t room)
     }
     fclose(f);
     return n;
+}
+
+/* Withdrawals may be left out: then none are lent. */
+static void load_withdrawals(const char *path)
+{
+    if (path) {
+        withdrawals_len = load(path, withdrawals, sizeof withdrawals);
+    } else {
+        withdrawals_len = SECPAL_NONE_LEN;
+        memcpy(withdrawals, SECPAL_NONE, SECPAL_NONE_LEN);
+    }
 }
 
 static unsigned u16_at(const uint8_t *s, size_t at) { return s[at] * 256u + s[at + 1]; }
@@ -213,13 +226,17 @@ enum { EXIT_ALLOW = 0, EXIT_DENY = 1, EXIT_NO_ANSWER = 2 };
 
 int main(int argc, char **argv)
 {
-    int with_facts = argc == 4 && strcmp(argv[1], "--facts") == 0;
-    if (argc != 3 + with_facts)
-        return fprintf(stderr, "usage: %s [--facts] POLICY REQUEST\n", argv[0]), EXIT_NO_ANSWER;
-    policy_len = load(argv[1 + with_facts], policy, sizeof policy);
-    request_len = load(argv[2 + with_facts], request, sizeof request);
+    int with_facts = argc > 1 && strcmp(argv[1], "--facts") == 0;
+    char **files = argv + 1 + with_facts; /* argv ends with NULL */
+    int count = argc - 1 - with_facts;
+    if (count < 2 || count > 3)
+        return fprintf(stderr, "usage: %s [--facts] POLICY REQUEST [WITHDRAWALS]\n", argv[0]), EXIT_NO_ANSWER;
+    policy_len = load(files[0], policy, sizeof policy);
+    request_len = load(files[1], request, sizeof request);
+    load_withdrawals(files[2]);
 
-    secpal_report r = secpal_decide(policy, policy_len, request, request_len, facts, sizeof facts, answers, sizeof answers);
+    secpal_report r = secpal_decide(policy, policy_len, request, request_len, withdrawals, withdrawals_len, facts, sizeof facts, answers,
+                                    sizeof answers);
 
     if (r.decision == SECPAL_REFUSED) {
         printf("refused (%u): %s", (unsigned)r.refusal, refusals[r.refusal]);

@@ -32,9 +32,18 @@ class Belt(unittest.TestCase):
             secpal.decide(self.policy, example("otto"), room_for_facts=9)
         self.assertEqual((caught.exception.number, caught.exception.side, caught.exception.place), (8, 0, 0))
         with self.assertRaises(secpal.Refused):
-            secpal.decide(b"", b"", 0, 0)
+            secpal.decide(b"", b"", secpal.NONE, 0, 0)
         with self.assertRaises(secpal.Refused):
             secpal.reach(self.policy, self.policy)
+
+    def test_withdrawals(self):
+        withdrawals = example("withdrawals")
+        decision = secpal.decide(self.policy, example("otto"), withdrawals)
+        self.assertEqual((decision.allowed, len(decision.facts), decision.rounds), (False, 6, 1))
+        self.assertEqual(secpal.reach(self.policy, example("otto"), withdrawals), [0, 1])
+        with self.assertRaises(secpal.Refused) as caught:
+            secpal.decide(self.policy, example("otto"), b"")
+        self.assertEqual((caught.exception.number, caught.exception.side, caught.exception.place), (1, 3, 0))
 
     def test_names(self):
         self.assertEqual(secpal.constants(self.policy), [7, 14, 21, 27])

@@ -35,14 +35,27 @@ pub trait Convert<A: Form, B: Form> {
         })
     }
 
+    fn constraints(&mut self, constraints: &[Constraint<A>]) -> Result<Vec<Constraint<B>>, Self::Error> {
+        constraints.iter().map(|c| self.constraint(c)).collect()
+    }
+
     fn assertion(&mut self, assertion: &Assertion<A>) -> Result<Assertion<B>, Self::Error> {
         Ok(Assertion {
             serial: assertion.serial,
             issuer: self.at(&assertion.issuer)?,
             head: self.fact(&assertion.head)?,
             body: assertion.body.iter().map(|f| self.fact(f)).collect::<Result<_, _>>()?,
-            constraints: assertion.constraints.iter().map(|c| self.constraint(c)).collect::<Result<_, _>>()?,
+            constraints: self.constraints(&assertion.constraints)?,
             span: assertion.span,
+        })
+    }
+
+    fn withdrawal(&mut self, withdrawal: &Withdrawal<A>) -> Result<Withdrawal<B>, Self::Error> {
+        Ok(Withdrawal {
+            issuer: self.at(&withdrawal.issuer)?,
+            serial: withdrawal.serial,
+            constraints: self.constraints(&withdrawal.constraints)?,
+            span: withdrawal.span,
         })
     }
 

@@ -19,7 +19,7 @@ pub struct Decision {
 /// Decides; a refusal from the state, for want of room, is a problem.
 pub fn decide(policy: &Policy, asked: &Asked) -> Result<Decision, Problem> {
     let (mut facts, mut answers) = (vec![0; FACT_BYTES], vec![0; ANSWER_BYTES]);
-    let report = secpal::decide(&policy.bytes, &asked.bytes, &mut facts, &mut answers);
+    let report = secpal::decide(&policy.slices(&asked.bytes), &mut facts, &mut answers);
     match report.verdict {
         Verdict::Refused(refusal) => Err(Problem { refusal: Some(refusal), ..Problem::new(&asked.file, explain::general(refusal.number)) }),
         verdict => Ok(Decision { allowed: verdict == Verdict::Allow, report, facts, answers }),
@@ -75,7 +75,9 @@ impl Decision {
         let mut lines = vec![format!("{}: {}", self.word(), question(asked))];
         if !self.allowed {
             let today = calendar::date(asked.text.today.it);
-            lines.push(format!("  does not follow from the statements of {} on {today}", policy.file));
+            let withdrawn =
+                policy.withdrawals.as_ref().map_or(String::new(), |given| format!(", without those that {} withdraws,", given.file));
+            lines.push(format!("  does not follow from the statements of {}{withdrawn} on {today}", policy.file));
         }
         for answer in self.named(policy, asked).iter().filter(|answer| !answer.is_empty()) {
             let bindings: Vec<String> = answer.iter().map(|(variable, constant)| format!("{variable} = {constant}")).collect();

@@ -56,6 +56,11 @@ impl Reader<'_> {
         Some(Constraint { operator, left: self.expression()?, right: self.expression()?, span: Span::default() })
     }
 
+    fn constraints(&mut self) -> Option<Vec<Constraint<Numbers>>> {
+        let count = self.byte()? as usize;
+        self.times(count, Reader::constraint)
+    }
+
     fn assertion(&mut self) -> Option<Assertion<Numbers>> {
         self.two()?;
         let serial = self.four()?;
@@ -63,9 +68,11 @@ impl Reader<'_> {
         let head = self.fact()?;
         let facts = self.byte()? as usize;
         let body = self.times(facts, Reader::fact)?;
-        let tests = self.byte()? as usize;
-        let constraints = self.times(tests, Reader::constraint)?;
-        Some(Assertion { serial, issuer, head, body, constraints, span: Span::default() })
+        Some(Assertion { serial, issuer, head, body, constraints: self.constraints()?, span: Span::default() })
+    }
+
+    fn withdrawal(&mut self) -> Option<Withdrawal<Numbers>> {
+        Some(Withdrawal { issuer: self.expression()?, serial: self.four()?, constraints: self.constraints()?, span: Span::default() })
     }
 
     fn nodes(&mut self) -> Option<Vec<Node<Numbers>>> {
@@ -154,6 +161,13 @@ pub fn request(bytes: &[u8], verbs: &[Verb]) -> Option<Request<Numbers>> {
     let mut reader = Reader { bytes, place: 1 + 4, arities: arities(verbs) };
     let today = at(reader.four()?);
     Some(Request { version: at(bytes[0]), today, node: reader.node()? })
+}
+
+/// Withdrawals that are accepted under some policy.
+pub fn withdrawals(bytes: &[u8]) -> Option<Withdrawals<Numbers>> {
+    let mut reader = Reader { bytes, place: 1 + 4, arities: vec![] };
+    let count = reader.two()? as usize;
+    Some(Withdrawals { version: at(bytes[0]), entries: reader.times(count, Reader::withdrawal)? })
 }
 
 /// A fact of the fact buffer: its round, issuer, depth, and what is said.

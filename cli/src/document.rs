@@ -9,6 +9,7 @@ pub enum Item {
     Constants(Kind, Vec<At<Constant>>),
     Verb(Verb),
     Assertion(Assertion<Text>),
+    Withdrawal(Withdrawal<Text>),
     Request(Request<Text>),
     Today(u32),
     Expectation(Expectation),
@@ -51,18 +52,21 @@ impl Item {
             Item::Version(_) => Section::Version,
             Item::Constants(..) => Section::Constants,
             Item::Verb(_) => Section::Verbs,
-            Item::Assertion(_) | Item::Request(_) | Item::Today(_) | Item::Expectation(_) => Section::Statements,
+            Item::Assertion(_) | Item::Withdrawal(_) | Item::Request(_) | Item::Today(_) | Item::Expectation(_) => Section::Statements,
         }
     }
 }
 
+/// The version as the first item, where one is written.
+fn version(p: &mut Parser) -> Parsed<Vec<At<Item>>> {
+    let version = p.version()?;
+    let written = version.span.end > version.span.start;
+    Ok(if written { vec![At { it: Item::Version(version.it), span: version.span }] } else { vec![] })
+}
+
 pub fn policy(text: &str) -> Parsed<Document> {
     let mut p = Parser::new(text)?;
-    let mut items: Vec<At<Item>> = vec![];
-    let version = p.version()?;
-    if version.span.end > version.span.start {
-        items.push(At { it: Item::Version(version.it), span: version.span });
-    }
+    let mut items = version(&mut p)?;
     while p.peek().token != Token::End {
         let start = p.peek().span;
         let last = items.last().map_or(Section::Version, |at| at.it.section());
@@ -84,6 +88,17 @@ pub fn policy(text: &str) -> Parsed<Document> {
             let span = assertion.span;
             items.push(At { it: Item::Assertion(assertion), span });
         }
+    }
+    Ok(Document { items, comments: p.comments })
+}
+
+pub fn withdrawals(text: &str) -> Parsed<Document> {
+    let mut p = Parser::new(text)?;
+    let mut items = version(&mut p)?;
+    while p.peek().token != Token::End {
+        let withdrawal = p.withdrawal()?;
+        let span = withdrawal.span;
+        items.push(At { it: Item::Withdrawal(withdrawal), span });
     }
     Ok(Document { items, comments: p.comments })
 }
@@ -155,10 +170,13 @@ fn binding(p: &mut Parser) -> Parsed<(At<Variable>, At<Name>)> {
     Ok((At { it: variable, span }, p.expression("a constant")?))
 }
 
-/// A text of any sort: one that begins with `on DATE ask` is a request, with `on` alone a file of expectations.
+/// A text of any sort: one that begins with `on DATE ask` is a request, with `on` alone a file of expectations, with `withdraw` withdrawals.
 pub fn any(text: &str) -> Parsed<Document> {
     let mut p = Parser::new(text)?;
     p.version()?;
+    if p.is_word("withdraw") {
+        return withdrawals(text);
+    }
     if !p.is_word("on") {
         return policy(text);
     }
@@ -173,17 +191,33 @@ pub fn any(text: &str) -> Parsed<Document> {
 impl Document {
     /// The policy that a document of `policy` says.
     pub fn to_policy(&self) -> Policy<Text> {
-        let mut policy = Policy { version: At { it: 1, span: Span::default() }, constants: vec![], verbs: vec![], assertions: vec![] };
+        let mut policy = Policy { version: self.version(), constants: vec![], verbs: vec![], assertions: vec![] };
         for At { it, span } in &self.items {
             match it {
-                Item::Version(version) => policy.version = At { it: *version, span: *span },
                 Item::Constants(_, constants) => policy.constants.extend(constants.iter().cloned()),
                 Item::Verb(verb) => policy.verbs.push(At { it: verb.clone(), span: *span }),
                 Item::Assertion(assertion) => policy.assertions.push(assertion.clone()),
-                Item::Request(_) | Item::Today(_) | Item::Expectation(_) => {}
+                Item::Version(_) | Item::Withdrawal(_) | Item::Request(_) | Item::Today(_) | Item::Expectation(_) => {}
             }
         }
         policy
+    }
+
+    /// The withdrawals that a document of `withdrawals` says.
+    pub fn to_withdrawals(&self) -> Withdrawals<Text> {
+        let entry = |at: &At<Item>| match &at.it {
+            Item::Withdrawal(withdrawal) => Some(withdrawal.clone()),
+            _ => None,
+        };
+        Withdrawals { version: self.version(), entries: self.items.iter().filter_map(entry).collect() }
+    }
+
+    /// The version that is written, or 1.
+    fn version(&self) -> At<u8> {
+        match self.items.first() {
+            Some(At { it: Item::Version(version), span }) => At { it: *version, span: *span },
+            _ => At { it: 1, span: Span::default() },
+        }
     }
 
     /// The request that a document of `request` asks.
@@ -205,6 +239,12 @@ impl Document {
 
     pub fn of_request(request: &Request<Text>) -> Document {
         Document::of_items(vec![Item::Request(request.clone())])
+    }
+
+    pub fn of_withdrawals(withdrawals: &Withdrawals<Text>) -> Document {
+        let mut items = vec![Item::Version(withdrawals.version.it)];
+        items.extend(withdrawals.entries.iter().map(|entry| Item::Withdrawal(entry.clone())));
+        Document::of_items(items)
     }
 
     fn of_items(items: Vec<Item>) -> Document {

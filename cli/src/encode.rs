@@ -97,6 +97,19 @@ impl Compiled {
         self.two(constraint.right.it);
     }
 
+    fn constraints(&mut self, constraints: &[Constraint<Numbers>], span: Span) -> Result<(), Fault> {
+        self.count(constraints.len(), "constraints", span)?;
+        constraints.iter().for_each(|c| self.constraint(c));
+        Ok(())
+    }
+
+    fn withdrawal(&mut self, withdrawal: &Withdrawal<Numbers>) -> Result<(), Fault> {
+        self.note(withdrawal.span);
+        self.two(withdrawal.issuer.it);
+        self.four(withdrawal.serial);
+        self.constraints(&withdrawal.constraints, withdrawal.span)
+    }
+
     fn assertion(&mut self, assertion: &Assertion<Numbers>) -> Result<(), Fault> {
         self.note(assertion.span);
         let from = self.bytes.len();
@@ -108,8 +121,7 @@ impl Compiled {
         for fact in &assertion.body {
             self.fact(fact)?;
         }
-        self.count(assertion.constraints.len(), "constraints", assertion.span)?;
-        assertion.constraints.iter().for_each(|c| self.constraint(c));
+        self.constraints(&assertion.constraints, assertion.span)?;
         match u16::try_from(self.bytes.len() - from - 2) {
             Ok(length) => self.bytes[from..from + 2].copy_from_slice(&length.to_be_bytes()),
             Err(_) => return fault(assertion.span, "this statement is too long"),
@@ -169,5 +181,12 @@ pub fn request(request: &Request<Numbers>) -> Result<Compiled, Fault> {
     out.note(request.today.span);
     out.four(request.today.it);
     out.node(&request.node)?;
+    Ok(out.close())
+}
+
+pub fn withdrawals(withdrawals: &Withdrawals<Numbers>) -> Result<Compiled, Fault> {
+    let mut out = Compiled::start(&withdrawals.version);
+    out.two(withdrawals.entries.len() as u16);
+    withdrawals.entries.iter().try_for_each(|entry| out.withdrawal(entry))?;
     Ok(out.close())
 }

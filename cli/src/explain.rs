@@ -6,7 +6,7 @@ use secpal::limits;
 
 pub type Words = (Span, String);
 
-/// What the nine refusals say where nothing closer is known.
+/// What the refusals say where nothing closer is known.
 pub fn general(number: u32) -> &'static str {
     match number {
         limits::BAD_VERSION => "the version is absent or not known",
@@ -21,6 +21,7 @@ pub fn general(number: u32) -> &'static str {
         }
         limits::TOO_MANY_FACTS => "more facts are derivable than there is room for",
         limits::TOO_MANY_ANSWERS => "there are more answers than there is room for",
+        limits::OPEN_WITHDRAWAL => "a withdrawal has a variable",
         _ => "refused",
     }
 }
@@ -77,11 +78,31 @@ fn verb_words(verb: &Verb, number: u32) -> Option<String> {
 
 fn assertion_form(assertion: &Assertion<Numbers>) -> Option<String> {
     let nests = || std::iter::once(&assertion.head).chain(&assertion.body).find_map(nest_words);
-    nests().or(too_many(assertion.body.len(), limits::BODY, "conditions after \"if\"")).or(too_many(
-        assertion.constraints.len(),
-        limits::CONSTRAINTS,
-        "constraints after \"where\"",
-    ))
+    nests().or(too_many(assertion.body.len(), limits::BODY, "conditions after \"if\"")).or(too_many_constraints(&assertion.constraints))
+}
+
+fn too_many_constraints(constraints: &[Constraint<Numbers>]) -> Option<String> {
+    too_many(constraints.len(), limits::CONSTRAINTS, "constraints after \"where\"")
+}
+
+/// What is wrong with the entry that stands at `span` of a text of withdrawals.
+pub fn withdrawals(withdrawals: &Withdrawals<Numbers>, names: &Names, number: u32, span: Span) -> Words {
+    let words = || {
+        let entry = withdrawals.entries.iter().find(|entry| entry.span == span)?;
+        match number {
+            limits::BAD_FORM => too_many_constraints(&entry.constraints).map(|words| (span, words)),
+            limits::NO_FIT => Fit::new(names).withdrawal(entry).err(),
+            limits::OPEN_WITHDRAWAL => open_withdrawal(entry),
+            _ => None,
+        }
+    };
+    words().unwrap_or((span, general(number).to_string()))
+}
+
+fn open_withdrawal(entry: &Withdrawal<Numbers>) -> Option<Words> {
+    let tested = entry.constraints.iter().flat_map(|c| [&c.left, &c.right]);
+    let open = std::iter::once(&entry.issuer).chain(tested).find(is_variable)?;
+    Some((open.span, "a withdrawal has no variables".to_string()))
 }
 
 /// What is wrong with the node, or with today, at `span` of a request's text.
@@ -188,6 +209,11 @@ impl<'a> Fit<'a> {
         self.fact(&assertion.head)?;
         assertion.body.iter().try_for_each(|fact| self.fact(fact))?;
         assertion.constraints.iter().try_for_each(|constraint| self.constraint(constraint))
+    }
+
+    fn withdrawal(&mut self, entry: &Withdrawal<Numbers>) -> Result<(), Words> {
+        self.place(&entry.issuer, Kind::Principal)?;
+        entry.constraints.iter().try_for_each(|constraint| self.constraint(constraint))
     }
 
     fn node(&mut self, node: &Node<Numbers>) -> Result<(), Words> {

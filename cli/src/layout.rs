@@ -10,6 +10,7 @@ fn item_text(item: &Item) -> String {
         Item::Constants(kind, constants) => print::declaration(*kind, constants),
         Item::Verb(verb) => print::verb(verb),
         Item::Assertion(assertion) => print::assertion(assertion),
+        Item::Withdrawal(withdrawal) => print::withdrawal(withdrawal),
         Item::Request(request) => print::request(request),
         Item::Today(day) => format!("on {}", crate::calendar::date(*day)),
         Item::Expectation(expectation) => expectation_text(expectation),

@@ -35,6 +35,11 @@ pub fn compile_request(names: &Names, text: &str) -> Result<(Compiled, VariableN
     Ok((encode::request(&numbers)?, variables))
 }
 
+/// The bytes of a text of withdrawals under a policy with these names.
+pub fn compile_withdrawals(names: &Names, text: &str) -> Result<Compiled, Fault> {
+    encode::withdrawals(&resolve::withdrawals(names, &document::withdrawals(text)?.to_withdrawals())?)
+}
+
 /// The names of an accepted policy.
 pub fn names(policy: &[u8]) -> Option<Names> {
     Some(Names::new(decode::constants(policy)?, decode::verbs(policy)?)).filter(|names| !names.constants.is_empty())
@@ -51,6 +56,12 @@ pub fn show_request(names: &Names, request: &[u8]) -> Option<String> {
     let numbers = decode::request(request, &names.verbs)?;
     let text = unresolve::request(&numbers, names, &vec![]).ok()?;
     Some(layout::format("", &document::Document::of_request(&text)))
+}
+
+/// The text of withdrawals that are accepted under the policy with these names.
+pub fn show_withdrawals(names: &Names, withdrawals: &[u8]) -> Option<String> {
+    let text = unresolve::withdrawals(&decode::withdrawals(withdrawals)?, names).ok()?;
+    Some(layout::format("", &document::Document::of_withdrawals(&text)))
 }
 
 /// A text of any sort in its layout.

@@ -1,12 +1,12 @@
-//! `secpal`: policies and requests in words. docs/LANGUAGE.md has the language, man/secpal.1 the commands.
+//! `secpal`: policies, requests and withdrawals in words. docs/LANGUAGE.md has the language, man/secpal.1 the commands.
 mod decision;
 mod expect;
 mod source;
 
 use language::json::Json;
-use language::{explain, show_policy, show_request};
+use language::{explain, show_policy, show_request, show_withdrawals};
 use secpal::limits;
-use source::{Content, Problem};
+use source::{Content, Policy, Problem};
 use std::io::{IsTerminal, Write};
 use std::process::ExitCode;
 
@@ -23,6 +23,8 @@ usage: secpal COMMAND [--json]
   limits | version
 POLICY and REQUEST are files, in words or in bytes; REQUEST may also be the request itself:
   secpal decide belt.secpal 'on 2026-11-16 ask Works says Otto may-order encoder'
+--withdrawals FILE, with each POLICY: the statements that FILE withdraws do not count. Without a REQUEST,
+compile and show write the withdrawals themselves.
 Exit status: 0 allow, or all well; 1 deny, or an expectation not met; 2 refused, or an error.";
 
 /// What a command answers, and what it writes.
@@ -45,10 +47,15 @@ struct Arguments {
     check: bool,
     write: bool,
     output: Option<String>,
+    withdrawals: Option<String>,
     words: Vec<String>,
 }
 
 impl Arguments {
+    fn policy(&self, path: &str) -> Result<Policy, Problem> {
+        source::policy(path, self.withdrawals.as_deref())
+    }
+
     /// A line of words or, where that is asked for, of JSON.
     fn line(&self, text: impl FnOnce() -> String, json: impl FnOnce() -> Json) -> String {
         let line = if self.json { json().to_string() } else { text() };
@@ -59,15 +66,14 @@ impl Arguments {
 fn arguments() -> Result<Arguments, Problem> {
     let mut out = Arguments::default();
     let mut given = std::env::args().skip(1);
+    let file = |option: &str, next: Option<String>| next.ok_or_else(|| Problem::new("secpal", format!("{option} wants a file")));
     while let Some(word) = given.next() {
         match word.as_str() {
             "--json" => out.json = true,
             "--check" => out.check = true,
             "-w" => out.write = true,
-            "-o" => match given.next() {
-                Some(file) => out.output = Some(file),
-                None => return Err(Problem::new("secpal", "-o wants a file")),
-            },
+            "-o" => out.output = Some(file("-o", given.next())?),
+            "--withdrawals" => out.withdrawals = Some(file("--withdrawals", given.next())?),
             "--help" | "-h" => out.words.insert(0, "help".to_string()),
             "--version" => out.words.insert(0, "version".to_string()),
             option if option.starts_with('-') && option.len() > 1 => {
@@ -114,8 +120,8 @@ fn run(arguments: &Arguments) -> Result<Answer, Problem> {
         ["check", policy, request] => check(arguments, policy, Some(request)),
         ["compile", policy] => compile(arguments, policy, None),
         ["compile", policy, request] => compile(arguments, policy, Some(request)),
-        ["show", policy] => show(policy, None),
-        ["show", policy, request] => show(policy, Some(request)),
+        ["show", policy] => show(arguments, policy, None),
+        ["show", policy, request] => show(arguments, policy, Some(request)),
         ["fmt", file] => fmt(arguments, file),
         ["decide", policy, request] => decide(arguments, policy, request, false),
         ["facts", policy, request] => decide(arguments, policy, request, true),
@@ -129,12 +135,13 @@ fn run(arguments: &Arguments) -> Result<Answer, Problem> {
 }
 
 fn check(arguments: &Arguments, policy: &str, request: Option<&str>) -> Result<Answer, Problem> {
-    let policy = source::policy(policy)?;
+    let policy = arguments.policy(policy)?;
     let asked = request.map(|request| source::request(&policy, request)).transpose()?;
     let text = || {
         let counts = format!("{} constants, {} verbs", policy.names.constants.len(), policy.names.verbs.len());
         let request = asked.map_or(String::new(), |asked| format!("\n{}: accepted, {}", asked.file, decision::question(&asked)));
-        format!("{}: accepted, {counts}{request}", policy.file)
+        let withdrawals = policy.withdrawals.as_ref().map_or(String::new(), |given| format!("\n{}: accepted", given.file));
+        format!("{}: accepted, {counts}{request}{withdrawals}", policy.file)
     };
     Ok(Answer::yes(arguments.line(text, || Json::object([("accepted", Json::Flag(true))]))))
 }
@@ -147,10 +154,11 @@ fn write(file: &str, bytes: &[u8]) -> Result<Answer, Problem> {
 }
 
 fn compile(arguments: &Arguments, policy: &str, request: Option<&str>) -> Result<Answer, Problem> {
-    let policy = source::policy(policy)?;
-    let bytes = match request {
-        None => policy.bytes,
-        Some(request) => source::request(&policy, request)?.bytes,
+    let policy = arguments.policy(policy)?;
+    let bytes = match (request, &policy.withdrawals) {
+        (Some(request), _) => source::request(&policy, request)?.bytes,
+        (None, Some(withdrawals)) => withdrawals.bytes.clone(),
+        (None, None) => policy.bytes,
     };
     match &arguments.output {
         Some(file) => write(file, &bytes),
@@ -159,11 +167,12 @@ fn compile(arguments: &Arguments, policy: &str, request: Option<&str>) -> Result
     }
 }
 
-fn show(policy: &str, request: Option<&str>) -> Result<Answer, Problem> {
-    let policy = source::policy(policy)?;
-    let text = match request {
-        None => show_policy(&policy.bytes),
-        Some(request) => show_request(&policy.names, &source::request(&policy, request)?.bytes),
+fn show(arguments: &Arguments, policy: &str, request: Option<&str>) -> Result<Answer, Problem> {
+    let policy = arguments.policy(policy)?;
+    let text = match (request, &policy.withdrawals) {
+        (Some(request), _) => show_request(&policy.names, &source::request(&policy, request)?.bytes),
+        (None, Some(withdrawals)) => show_withdrawals(&policy.names, &withdrawals.bytes),
+        (None, None) => show_policy(&policy.bytes),
     };
     text.map(Answer::yes).ok_or_else(|| Problem::new(&policy.file, "cannot be shown"))
 }
@@ -179,7 +188,7 @@ fn fmt(arguments: &Arguments, file: &str) -> Result<Answer, Problem> {
 }
 
 fn decide(arguments: &Arguments, policy: &str, request: &str, with_facts: bool) -> Result<Answer, Problem> {
-    let policy = source::policy(policy)?;
+    let policy = arguments.policy(policy)?;
     let asked = source::request(&policy, request)?;
     let decision = decision::decide(&policy, &asked)?;
     let line = arguments.line(|| decision.text(&policy, &asked, with_facts), || decision.json(&policy, &asked, with_facts));
@@ -187,9 +196,9 @@ fn decide(arguments: &Arguments, policy: &str, request: &str, with_facts: bool) 
 }
 
 fn reach(arguments: &Arguments, policy: &str, request: &str) -> Result<Answer, Problem> {
-    let policy = source::policy(policy)?;
+    let policy = arguments.policy(policy)?;
     let asked = source::request(&policy, request)?;
-    let marks = secpal::reach(&policy.bytes, &asked.bytes).map_err(|refusal| Problem::refused(&asked.file, refusal))?;
+    let marks = secpal::reach(&policy.slices(&asked.bytes)).map_err(|refusal| Problem::refused(&asked.file, refusal))?;
     let marked = marks.iter().enumerate().filter(|(_, mark)| **mark);
     let names: Vec<String> = marked.map(|(number, _)| explain::constant(&policy.names, number as u16)).collect();
     let json = || Json::object([("reach", Json::list(names.iter().map(Json::text)))]);
@@ -197,7 +206,7 @@ fn reach(arguments: &Arguments, policy: &str, request: &str) -> Result<Answer, P
 }
 
 fn test(arguments: &Arguments, policy: &str, expectations: &str) -> Result<Answer, Problem> {
-    let outcome = expect::run(&source::policy(policy)?, expectations)?;
+    let outcome = expect::run(&arguments.policy(policy)?, expectations)?;
     let line = arguments.line(|| outcome.text(), || outcome.json());
     Ok(Answer { yes: outcome.met(), output: line.into() })
 }
@@ -211,7 +220,8 @@ fn limits_listed(arguments: &Arguments) -> Answer {
         ("parameters", "parameters of a verb", limits::ARITY),
         ("nest", "\"can say\" inside each other", limits::NEST),
         ("conditions", "conditions of a statement", limits::BODY),
-        ("constraints", "constraints of a statement", limits::CONSTRAINTS),
+        ("constraints", "constraints of a statement or a withdrawal", limits::CONSTRAINTS),
+        ("withdrawals", "withdrawals", limits::WITHDRAWALS),
         ("variables", "variables of a statement or a request", limits::VARIABLES),
         ("parts", "parts of an all(..) or any(..)", limits::PARTS),
         ("depth", "nodes of a request inside each other", limits::DEPTH),

@@ -211,12 +211,35 @@ impl Parser {
         }
         let head = self.fact()?;
         let body = if self.take_word("if") { self.list(Parser::fact)? } else { vec![] };
-        let constraints = if self.take_word("where") { self.list(Parser::constraint)? } else { vec![] };
-        let end = match self.take_symbol(".") {
-            true => self.before(),
-            false => return self.wanted("a full stop, a comma, \"if\" or \"where\""),
-        };
+        let constraints = self.constraints()?;
+        let end = self.full_stop("a full stop, a comma, \"if\" or \"where\"")?;
         Ok(Assertion { serial, issuer, head, body, constraints, span: start.to(end) })
+    }
+
+    fn constraints(&mut self) -> Parsed<Vec<Constraint<Text>>> {
+        match self.take_word("where") {
+            true => self.list(Parser::constraint),
+            false => Ok(vec![]),
+        }
+    }
+
+    /// The full stop, or what else could stand there.
+    fn full_stop(&mut self, what: &str) -> Parsed<Span> {
+        match self.take_symbol(".") {
+            true => Ok(self.before()),
+            false => self.wanted(what),
+        }
+    }
+
+    /// `withdraw North #17 where today <= 2027-01-01.`
+    pub fn withdrawal(&mut self) -> Parsed<Withdrawal<Text>> {
+        let start = self.word("withdraw")?;
+        let issuer = self.expression("an issuer")?;
+        self.symbol("#")?;
+        let serial = self.number("a serial number")?;
+        let constraints = self.constraints()?;
+        let end = self.full_stop("a full stop, a comma or \"where\"")?;
+        Ok(Withdrawal { issuer, serial, constraints, span: start.to(end) })
     }
 
     /// What begins with a name but goes on without "says" may be a declaration whose word is misspelt.

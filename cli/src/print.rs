@@ -104,8 +104,19 @@ pub fn assertion(assertion: &Assertion<Text>) -> String {
     let serial = if assertion.serial == 0 { String::new() } else { format!("#{} ", assertion.serial) };
     let head = format!("{serial}{} says {}", expression(&assertion.issuer.it), fact(&assertion.head));
     let body: Vec<String> = assertion.body.iter().map(fact).collect();
-    let constraints: Vec<String> = assertion.constraints.iter().map(constraint).collect();
-    let whole = |broken| format!("{head}{}{}.", clause("if", &body, broken), clause("where", &constraints, broken));
+    sentence(&head, &body, &assertion.constraints)
+}
+
+/// `withdraw North #17 where today <= 2027-01-01.`
+pub fn withdrawal(withdrawal: &Withdrawal<Text>) -> String {
+    let head = format!("withdraw {} #{}", expression(&withdrawal.issuer.it), withdrawal.serial);
+    sentence(&head, &[], &withdrawal.constraints)
+}
+
+/// A head with its conditions and constraints, on one line if it is short enough.
+fn sentence(head: &str, body: &[String], constraints: &[Constraint<Text>]) -> String {
+    let constraints: Vec<String> = constraints.iter().map(constraint).collect();
+    let whole = |broken| format!("{head}{}{}.", clause("if", body, broken), clause("where", &constraints, broken));
     let line = whole(false);
     if line.len() <= WIDTH {
         line

@@ -43,10 +43,10 @@ impl Convert<Text, Numbers> for Gather {
     }
 }
 
-/// Within one assertion or request.
+/// Within one assertion, request or entry.
 struct Resolver<'a> {
     names: &'a mut Names,
-    /// in a policy days and quantities need no declaration; a request has those of its policy alone
+    /// in a policy days and quantities need no declaration; a request and withdrawals have those of their policy alone
     grows: bool,
     used: [bool; limits::VARIABLES],
     variables: VariableNames,
@@ -107,7 +107,7 @@ impl<'a> Resolver<'a> {
         match self.names.number(&constant) {
             Some(number) => Ok(number),
             None if self.grows && self.names.constants.len() < limits::CONSTANTS => Ok(self.names.add(constant)),
-            None if self.grows => fault(span, too_many("constants", limits::CONSTANTS)),
+            None if self.grows => fault(span, too_many("a policy", "constants", limits::CONSTANTS)),
             None => fault(span, self.missing(constant.kind().word(), &print::constant(&constant))),
         }
     }
@@ -155,22 +155,22 @@ impl Convert<Text, Numbers> for Resolver<'_> {
     }
 }
 
-fn too_many(what: &str, most: usize) -> String {
-    format!("this is one too many: a policy has at most {most} {what}")
+fn too_many(whole: &str, what: &str, most: usize) -> String {
+    format!("this is one too many: {whole} has at most {most} {what}")
 }
 
-fn at_most<T>(items: &[T], most: usize, what: &str, span: impl Fn(&T) -> Span) -> Result<(), Fault> {
+fn at_most<T>(items: &[T], most: usize, (whole, what): (&str, &str), span: impl Fn(&T) -> Span) -> Result<(), Fault> {
     match items.get(most) {
-        Some(item) => fault(span(item), too_many(what, most)),
+        Some(item) => fault(span(item), too_many(whole, what, most)),
         None => Ok(()),
     }
 }
 
 /// A policy in numbers, with the names that they stand for.
 pub fn policy(text: &Policy<Text>) -> Result<(Policy<Numbers>, Names), Fault> {
-    at_most(&text.constants, limits::CONSTANTS, "constants", |c| c.span)?;
-    at_most(&text.verbs, limits::VERBS, "verbs", |v| v.span)?;
-    at_most(&text.assertions, limits::ASSERTIONS, "statements", |a| a.span)?;
+    at_most(&text.constants, limits::CONSTANTS, ("a policy", "constants"), |c| c.span)?;
+    at_most(&text.verbs, limits::VERBS, ("a policy", "verbs"), |v| v.span)?;
+    at_most(&text.assertions, limits::ASSERTIONS, ("a policy", "statements"), |a| a.span)?;
     let declared = text.constants.iter().map(|at| at.it.clone()).collect();
     let mut names = Names::new(declared, text.verbs.iter().map(|at| at.it.clone()).collect());
     let mut assertions = vec![];
@@ -194,6 +194,19 @@ pub fn request(names: &Names, text: &Request<Text>) -> Result<(Request<Numbers>,
     let mut resolver = Resolver::new(&mut names, false, gather);
     let node = resolver.node(&text.node)?;
     Ok((Request { version: text.version.clone(), today: text.today.clone(), node }, resolver.variables))
+}
+
+/// Withdrawals in numbers. They have the constants of their policy alone, as a request has.
+pub fn withdrawals(names: &Names, text: &Withdrawals<Text>) -> Result<Withdrawals<Numbers>, Fault> {
+    at_most(&text.entries, limits::WITHDRAWALS, ("a file", "withdrawals"), |entry| entry.span)?;
+    let mut names = names.clone();
+    let mut entries = vec![];
+    for entry in &text.entries {
+        let mut gather = Gather::default();
+        gather.withdrawal(entry)?;
+        entries.push(Resolver::new(&mut names, false, gather).withdrawal(entry)?);
+    }
+    Ok(Withdrawals { version: text.version.clone(), entries })
 }
 
 /// The number of a constant that stands in a file of expectations.

@@ -1,4 +1,4 @@
-//! Policies and requests as the tool is given them: files of either form, or a request as an argument. All are put to the engine.
+//! Policies, requests and withdrawals as the tool is given them: files of either form, or a request as an argument. All are put to the engine.
 use language::encode::Compiled;
 use language::json::Json;
 use language::lexer::{line_and_column, Fault};
@@ -6,7 +6,7 @@ use language::names::Names;
 use language::resolve::VariableNames;
 use language::syntax::{Request, Span, Text};
 use language::{decode, document, encode, explain, resolve, unresolve};
-use secpal::{limits, Refusal};
+use secpal::{limits, Refusal, Slices};
 
 /// Why there is no answer: in which file, where in it, and what.
 pub struct Problem {
@@ -47,7 +47,7 @@ impl Problem {
             entries.extend([("line", Json::number(line as u64)), ("column", Json::number(column as u64))]);
         }
         if let Some(refusal) = self.refusal {
-            let side = ["none", "policy", "request"].get(refusal.side as usize).copied().unwrap_or("none");
+            let side = ["none", "policy", "request", "withdrawals"].get(refusal.side as usize).copied().unwrap_or("none");
             entries.extend([("refusal", Json::number(refusal.number)), ("side", Json::text(side)), ("place", Json::number(refusal.place))]);
         }
         Json::object(entries)
@@ -66,15 +66,31 @@ pub fn read(path: &str) -> Result<Content, Problem> {
         Some(version) if *version < b'\t' => Ok(Content::Bytes(bytes)),
         _ => match String::from_utf8(bytes) {
             Ok(text) => Ok(Content::Text(text)),
-            Err(_) => Err(Problem::new(path, "neither a text nor the bytes of a policy or a request")),
+            Err(_) => Err(Problem::new(path, "neither a text nor bytes that the engine reads")),
         },
     }
 }
 
+/// A policy, and what is withdrawn from it.
 pub struct Policy {
     pub file: String,
     pub bytes: Vec<u8>,
     pub names: Names,
+    pub withdrawals: Option<Entries>,
+}
+
+/// A slice of entries that the engine accepts under its policy.
+pub struct Entries {
+    pub file: String,
+    pub bytes: Vec<u8>,
+}
+
+impl Policy {
+    /// What the engine is lent for a request.
+    pub fn slices<'a>(&'a self, request: &'a [u8]) -> Slices<'a> {
+        let lent = |entries: &'a Option<Entries>| entries.as_ref().map_or(secpal::NONE, |given| &given.bytes);
+        Slices { policy: &self.bytes, request, withdrawals: lent(&self.withdrawals) }
+    }
 }
 
 /// A refusal at the part of the text that it is about.
@@ -84,30 +100,58 @@ fn refused_text(file: &str, text: &str, compiled: &Compiled, refusal: Refusal, w
     Problem { refusal: Some(refusal), ..Problem::fault(file, text, Fault { span, message }) }
 }
 
-/// A policy that the engine accepts.
-pub fn policy(path: &str) -> Result<Policy, Problem> {
-    let bytes = match read(path)? {
-        Content::Bytes(bytes) => match secpal::policy_refusal(&bytes) {
-            Some(refusal) => return Err(Problem::refused(path, refusal)),
-            None => bytes,
-        },
-        Content::Text(text) => policy_text(path, &text)?,
+/// A policy that the engine accepts, with the file of entries that is given beside it.
+pub fn policy(path: &str, withdrawn: Option<&str>) -> Result<Policy, Problem> {
+    let mut policy = policy_alone(path)?;
+    policy.withdrawals = withdrawn.map(|path| withdrawals(&policy, path)).transpose()?;
+    Ok(policy)
+}
+
+fn policy_alone(path: &str) -> Result<Policy, Problem> {
+    let compile = |text: &str| {
+        let (numbers, names) = resolve::policy(&document::policy(text)?.to_policy())?;
+        Ok((encode::policy(&numbers)?, (numbers, names)))
     };
+    let words = |(numbers, names): &_, number, span| explain::policy(numbers, names, number, span);
+    let bytes = accepted(path, compile, words, secpal::policy_refusal)?;
     match language::names(&bytes) {
-        Some(names) => Ok(Policy { file: path.to_string(), bytes, names }),
+        Some(names) => Ok(Policy { file: path.to_string(), bytes, names, withdrawals: None }),
         None => Err(Problem::new(path, "the policy is accepted, but its names cannot be read")),
     }
 }
 
-fn policy_text(path: &str, text: &str) -> Result<Vec<u8>, Problem> {
-    let at = |fault| Problem::fault(path, text, fault);
-    let document = document::policy(text).map_err(at)?;
-    let (numbers, names) = resolve::policy(&document.to_policy()).map_err(at)?;
-    let compiled = encode::policy(&numbers).map_err(at)?;
-    match secpal::policy_refusal(&compiled.bytes) {
-        None => Ok(compiled.bytes),
-        Some(refusal) => Err(refused_text(path, text, &compiled, refusal, |span| explain::policy(&numbers, &names, refusal.number, span))),
+/// The bytes of a file that the engine accepts. `compile` gives the bytes of a text with the tree that they come from, and `words` say of an item of
+/// that tree what a refusal is about.
+fn accepted<T>(
+    path: &str,
+    compile: impl Fn(&str) -> Result<(Compiled, T), Fault>,
+    words: impl Fn(&T, u32, Span) -> explain::Words,
+    refusal: impl Fn(&[u8]) -> Option<Refusal>,
+) -> Result<Vec<u8>, Problem> {
+    match read(path)? {
+        Content::Bytes(bytes) => match refusal(&bytes) {
+            Some(refusal) => Err(Problem::refused(path, refusal)),
+            None => Ok(bytes),
+        },
+        Content::Text(text) => {
+            let (compiled, tree) = compile(&text).map_err(|fault| Problem::fault(path, &text, fault))?;
+            match refusal(&compiled.bytes) {
+                Some(refusal) => Err(refused_text(path, &text, &compiled, refusal, |span| words(&tree, refusal.number, span))),
+                None => Ok(compiled.bytes),
+            }
+        }
     }
+}
+
+fn withdrawals(policy: &Policy, path: &str) -> Result<Entries, Problem> {
+    let names = &policy.names;
+    let compile = |text: &str| {
+        let numbers = resolve::withdrawals(names, &document::withdrawals(text)?.to_withdrawals())?;
+        Ok((encode::withdrawals(&numbers)?, numbers))
+    };
+    let words = |numbers: &_, number, span| explain::withdrawals(numbers, names, number, span);
+    let bytes = accepted(path, compile, words, |bytes| secpal::withdrawals_refusal(&policy.bytes, bytes))?;
+    Ok(Entries { file: path.to_string(), bytes })
 }
 
 /// A request that the engine accepts under its policy.
@@ -126,9 +170,9 @@ pub fn request(policy: &Policy, argument: &str) -> Result<Asked, Problem> {
     }
     match read(argument)? {
         Content::Text(text) => request_text(policy, argument, &text),
-        Content::Bytes(bytes) => match secpal::reach(&policy.bytes, &bytes) {
-            Err(refusal) => Err(Problem::refused(argument, refusal)),
-            Ok(_) => shown(policy, argument, bytes, vec![]),
+        Content::Bytes(bytes) => match secpal::input_refusal(&policy.slices(&bytes)) {
+            Some(refusal) => Err(Problem::refused(argument, refusal)),
+            None => shown(policy, argument, bytes, vec![]),
         },
     }
 }
@@ -144,12 +188,12 @@ pub fn asked(policy: &Policy, file: &str, text: &str, request: &Request<Text>) -
     let at = |fault| Problem::fault(file, text, fault);
     let (numbers, variables) = resolve::request(&policy.names, request).map_err(at)?;
     let compiled = encode::request(&numbers).map_err(at)?;
-    match secpal::reach(&policy.bytes, &compiled.bytes) {
-        Err(refusal) => {
+    match secpal::input_refusal(&policy.slices(&compiled.bytes)) {
+        Some(refusal) => {
             let words = |span| explain::request(&numbers, &policy.names, refusal.number, span);
             Err(refused_text(file, text, &compiled, refusal, words))
         }
-        Ok(_) => shown(policy, file, compiled.bytes, variables),
+        None => shown(policy, file, compiled.bytes, variables),
     }
 }
 

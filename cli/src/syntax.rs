@@ -1,4 +1,4 @@
-//! Policies and requests as trees. One shape serves both forms: in `Text` names stand as they are written, in `Numbers` as the bytes have them.
+//! Policies, requests and withdrawals as trees. One shape serves both forms: in `Text` names stand as they are written, in `Numbers` as the bytes have them.
 use std::fmt::Debug;
 
 /// A part of a text, by offsets; in a tree that was read from bytes it is empty.
@@ -134,6 +134,15 @@ pub struct Assertion<F: Form> {
     pub span: Span,
 }
 
+/// An entry that takes back what its issuer said under a serial, while its constraints hold.
+#[derive(Debug, Clone)]
+pub struct Withdrawal<F: Form> {
+    pub issuer: At<F::Expression>,
+    pub serial: u32,
+    pub constraints: Vec<Constraint<F>>,
+    pub span: Span,
+}
+
 #[derive(Debug, Clone)]
 pub enum Part<F: Form> {
     Says(At<F::Expression>, Fact<F>),
@@ -194,4 +203,10 @@ pub struct Request<F: Form> {
     pub version: At<u8>,
     pub today: At<u32>,
     pub node: Node<F>,
+}
+
+#[derive(Debug, Clone)]
+pub struct Withdrawals<F: Form> {
+    pub version: At<u8>,
+    pub entries: Vec<Withdrawal<F>>,
 }

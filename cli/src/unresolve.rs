@@ -1,4 +1,4 @@
-//! Numbers to names, for policies and requests that were read from bytes.
+//! Numbers to names, for policies, requests and withdrawals that were read from bytes.
 use crate::convert::Convert;
 use crate::names::Names;
 use crate::resolve::VariableNames;
@@ -65,6 +65,12 @@ pub fn policy(policy: &Policy<Numbers>, names: &Names) -> Result<Policy<Text>, N
         verbs: policy.verbs.clone(),
         assertions: policy.assertions.iter().map(|a| unresolver.assertion(a)).collect::<Result<_, _>>()?,
     })
+}
+
+pub fn withdrawals(withdrawals: &Withdrawals<Numbers>, names: &Names) -> Result<Withdrawals<Text>, Nothing> {
+    let mut unresolver = Unresolver { names, variables: &vec![] };
+    let entries = withdrawals.entries.iter().map(|entry| unresolver.withdrawal(entry)).collect::<Result<_, _>>()?;
+    Ok(Withdrawals { version: withdrawals.version.clone(), entries })
 }
 
 pub fn request(request: &Request<Numbers>, names: &Names, variables: &VariableNames) -> Result<Request<Text>, Nothing> {

@@ -1,10 +1,12 @@
 //! Texts with signs changed, left out, put in or cut off: each gets an end and an answer, and what still compiles goes to bytes and back if the
 //! engine accepts it. A fault points into its text.
 use evaluator::generate::{self, Random};
+use language::encode::Compiled;
 use language::lexer::{line_and_column, Fault};
-use language::{compile_policy, compile_request, format, names, show_policy, show_request};
+use language::*;
+use secpal::{Refusal, Slices};
 
-const SIGNS: [&str; 24] = [
+const SIGNS: [&str; 25] = [
     " ",
     "\n",
     ".",
@@ -29,6 +31,7 @@ const SIGNS: [&str; 24] = [
     "today",
     "?x",
     "version 2\n",
+    "withdraw",
 ];
 
 fn damaged(text: &str, random: &mut Random) -> String {
@@ -73,33 +76,64 @@ fn policy_law(text: &str) {
     }
 }
 
+/// A text that compiles, put to the engine: what is accepted goes to words and back, a refusal is at an item of the text.
+fn slice_law(
+    text: &str,
+    compiled: Result<Compiled, Fault>,
+    refusal: impl Fn(&[u8]) -> Option<Refusal>,
+    again: impl Fn(&[u8]) -> Option<Vec<u8>>,
+) {
+    match compiled {
+        Err(fault) => points_into(text, &fault),
+        Ok(compiled) => match refusal(&compiled.bytes) {
+            None => assert_eq!(again(&compiled.bytes).expect("accepted"), compiled.bytes),
+            Some(refusal) => assert!(compiled.span(refusal.place as usize).is_some(), "{text}: {refusal:?}"),
+        },
+    }
+    // whatever sort of text it is
+    let _ = format(text);
+}
+
+fn request_law(policy: &[u8], text: &str) {
+    let names = names(policy).expect("an accepted policy");
+    slice_law(
+        text,
+        compile_request(&names, text).map(|(compiled, _)| compiled),
+        |bytes| secpal::input_refusal(&Slices::new(policy, bytes)),
+        |bytes| Some(compile_request(&names, &show_request(&names, bytes)?).ok()?.0.bytes),
+    );
+}
+
+fn withdrawals_law(policy: &[u8], text: &str) {
+    let names = names(policy).expect("an accepted policy");
+    slice_law(
+        text,
+        compile_withdrawals(&names, text),
+        |bytes| secpal::withdrawals_refusal(policy, bytes),
+        |bytes| Some(compile_withdrawals(&names, &show_withdrawals(&names, bytes)?).ok()?.bytes),
+    );
+}
+
 #[test]
 fn every_text_gets_an_answer() {
-    let (mut policies, mut requests) = (0, 0);
+    let (mut policies, mut requests, mut withdrawals) = (0, 0, 0);
     for seed in 0..6000 {
-        let case = generate::case(seed, |_, _| (0, 0));
+        let case = generate::case(seed, |_| (0, 0));
         let Some(text) = show_policy(&case.policy) else { continue };
         let mut random = Random::new(seed);
         policies += 1;
         policy_law(&damaged(&text, &mut random));
         let names = names(&case.policy).expect("an accepted policy");
-        if secpal::reach(&case.policy, &case.request).is_err() {
-            continue;
+        if secpal::input_refusal(&Slices::new(&case.policy, &case.request)).is_none() {
+            requests += 1;
+            let text = show_request(&names, &case.request).expect("an accepted request");
+            request_law(&case.policy, &damaged(&text, &mut random));
         }
-        requests += 1;
-        let text = damaged(&show_request(&names, &case.request).expect("an accepted request"), &mut random);
-        match compile_request(&names, &text) {
-            Err(fault) => points_into(&text, &fault),
-            Ok((compiled, _)) => match secpal::reach(&case.policy, &compiled.bytes) {
-                Ok(_) => assert_eq!(
-                    compile_request(&names, &show_request(&names, &compiled.bytes).expect("accepted")).expect("shown").0.bytes,
-                    compiled.bytes
-                ),
-                Err(refusal) => assert!(compiled.span(refusal.place as usize).is_some(), "{text}: {refusal:?}"),
-            },
+        if secpal::withdrawals_refusal(&case.policy, &case.withdrawals).is_none() {
+            withdrawals += 1;
+            let text = show_withdrawals(&names, &case.withdrawals).expect("accepted withdrawals");
+            withdrawals_law(&case.policy, &damaged(&text, &mut random));
         }
-        // whatever sort of text it is
-        let _ = format(&text);
     }
-    assert!(policies > 2000 && requests > 1000);
+    assert!(policies > 2000 && requests > 1000 && withdrawals > 1000);
 }

@@ -4,15 +4,26 @@ use std::process::Command;
 
 const NAMES: &str = "principal Works, North, arm\nthing encoder, arm\nverb is-fitter\nverb may-order thing\nverb permit-from day\n";
 
-/// What `secpal check` says of a policy, behind the file's name.
-fn complaint(name: &str, policy: &str, request: Option<&str>) -> String {
+fn scratch(name: &str, text: &str) -> String {
     let file = PathBuf::from(env!("CARGO_TARGET_TMPDIR")).join(name);
-    std::fs::write(&file, policy).expect("a scratch file");
-    let path = file.to_str().expect("a path");
-    let output = Command::new(env!("CARGO_BIN_EXE_secpal")).args(["check", path]).args(request).output().expect("it runs");
-    assert_eq!(output.status.code(), Some(2), "{policy}");
+    std::fs::write(&file, text).expect("a scratch file");
+    file.to_str().expect("a path").to_string()
+}
+
+/// What `secpal check` says, behind the name of the file that it is about.
+fn complaint_of(arguments: &[&str], about: &str) -> String {
+    let output = Command::new(env!("CARGO_BIN_EXE_secpal")).arg("check").args(arguments).output().expect("it runs");
+    assert_eq!(output.status.code(), Some(2), "{arguments:?}");
     let said = String::from_utf8(output.stderr).expect("text");
-    said.trim_end().trim_start_matches(path).trim_start_matches("request").trim_start_matches(':').to_string()
+    said.trim_end().trim_start_matches(about).trim_start_matches(':').to_string()
+}
+
+fn complaint(name: &str, policy: &str, request: Option<&str>) -> String {
+    let path = scratch(name, policy);
+    match request {
+        None => complaint_of(&[&path], &path),
+        Some(request) => complaint_of(&[&path, request], "request"),
+    }
 }
 
 fn statements(cases: &[(&str, &str)]) {
@@ -108,4 +119,39 @@ fn requests() {
     assert_eq!(check("r4", &deep), "1:51: refused (3): parts stand at most 8 deep");
     let deeper = format!("on 2026-11-16 ask {}Works says North is-fitter{}", "not(".repeat(9999), ")".repeat(9999));
     assert!(check("r5", &deeper).ends_with("too deep: parts stand at most 8 deep"));
+}
+
+#[test]
+fn withdrawals() {
+    let policy = scratch("withdrawn.secpal", &format!("{NAMES}Works says North permit-from 2026-03-01.\n"));
+    let check = |name: &str, text: &str| {
+        let file = scratch(name, text);
+        complaint_of(&[&policy, "--withdrawals", &file], &file)
+    };
+    let cases = [
+        ("withdraw Noth #1.", "1:10: the policy has no principal or thing Noth; the nearest is North"),
+        ("withdraw North #1\n  where today <= 2027-01-01.", "2:18: the policy has no day 2027-01-01"),
+        ("withdraw North 1.", "1:16: \"#\" is wanted here, not the number 1"),
+        ("withdraw North #1", "1:18: a full stop, a comma or \"where\" is wanted here, not the end"),
+        ("Works says North is-fitter.", "1:1: \"withdraw\" is wanted here, not \"Works\""),
+        ("version 2 withdraw North #1.", "1:1: refused (1): the version is absent or not known"),
+        ("withdraw North #1.\nwithdraw encoder #1.", "2:10: refused (5): a principal is wanted here, and this is a thing"),
+        ("withdraw today #1.", "1:10: refused (5): today stands in constraints alone"),
+        ("withdraw North #1 where today <= encoder.", "1:34: refused (5): a day or a quantity is wanted here, and this is a thing"),
+        ("withdraw ?x #1.", "1:10: refused (10): a withdrawal has no variables"),
+        ("withdraw North #1 where today = 2026-03-01, ?d <= today.", "1:45: refused (10): a withdrawal has no variables"),
+        (
+            "withdraw ?x #1 where ?x <= today.",
+            "1:22: refused (5): a day or a quantity is wanted here, and elsewhere this variable stands for a principal",
+        ),
+        (
+            "withdraw North #1 where today = today, today = today, today = today, today = today, today = today.",
+            "1:1: refused (3): there are at most 4 constraints after \"where\", and here are 5",
+        ),
+    ];
+    for (i, (text, wanted)) in cases.iter().enumerate() {
+        assert_eq!(check(&format!("withdrawals_{i}"), text), *wanted, "{text}");
+    }
+    let many = check("many_withdrawals", &"withdraw North #1.\n".repeat(257));
+    assert_eq!(many, "257:1: this is one too many: a file has at most 256 withdrawals");
 }

@@ -1,16 +1,17 @@
-//! The law of the language: compiling what `show` writes gives the same bytes for every accepted policy and request, and showing what was
-//! compiled gives the text in its layout. On the files of cases, and on generated ones: ROUND_TRIPS of them, 20,000 if it is not set.
+//! The law of the language: compiling what `show` writes gives the same bytes for every accepted policy, request and slice of withdrawals, and
+//! showing what was compiled gives the text in its layout. On the files of cases, and on generated ones: ROUND_TRIPS of them, 20,000 if it is not set.
 mod loosen;
 
-use evaluator::{generate, generate::Random, vectors};
+use evaluator::{generate, generate::Random, vectors, Call};
 use language::syntax::{Constant, Verb};
-use language::{compile_policy, compile_request, decode, encode, format, names, show_policy, show_request};
+use language::*;
 use loosen::{commented, loosened};
 
 #[derive(Default, Debug)]
 struct Count {
     policies: usize,
     requests: usize,
+    withdrawals: usize,
 }
 
 /// A text that `show` wrote, with what compiles a text of its sort.
@@ -27,8 +28,9 @@ fn text_law(text: &str, bytes: &[u8], random: &mut Random, compile: impl Fn(&str
     assert_eq!(format(&tidy).as_deref(), Ok(tidy.as_str()), "formatted once is formatted");
 }
 
-/// Tries the law on a policy and a request, as far as the engine accepts them.
-fn law(policy: &[u8], request: &[u8], random: &mut Random, count: &mut Count) {
+/// Tries the law on a call's slices, as far as the engine accepts them.
+fn law(call: &Call, random: &mut Random, count: &mut Count) {
+    let Call { policy, request, withdrawals, .. } = call;
     if secpal::policy_refusal(policy).is_some() {
         assert_eq!(show_policy(policy), None, "only accepted bytes are shown");
         return;
@@ -36,11 +38,16 @@ fn law(policy: &[u8], request: &[u8], random: &mut Random, count: &mut Count) {
     count.policies += 1;
     let text = show_policy(policy).expect("an accepted policy");
     text_law(&text, policy, random, |t| compile_policy(t).expect("a policy's text").bytes);
-    if secpal::reach(policy, request).is_ok() {
+    let names = names(policy).expect("an accepted policy");
+    if secpal::input_refusal(&secpal::Slices::new(policy, request)).is_none() {
         count.requests += 1;
-        let names = names(policy).expect("an accepted policy");
         let text = show_request(&names, request).expect("an accepted request");
         text_law(&text, request, random, |t| compile_request(&names, t).expect("a request's text").0.bytes);
+    }
+    if secpal::withdrawals_refusal(policy, withdrawals).is_none() {
+        count.withdrawals += 1;
+        let text = show_withdrawals(&names, withdrawals).expect("accepted withdrawals");
+        text_law(&text, withdrawals, random, |t| compile_withdrawals(&names, t).expect("a text of withdrawals").bytes);
     }
 }
 
@@ -81,12 +88,12 @@ fn on_the_files_of_cases() {
         let path = entry.expect("an entry").path();
         if path.extension().is_some_and(|extension| extension == "txt") {
             for (_, case) in vectors::cases(&std::fs::read_to_string(&path).expect("a file of cases")) {
-                law(&case.policy, &case.request, &mut random, &mut count);
+                law(&case.call, &mut random, &mut count);
             }
         }
     }
     println!("{folder}: {count:?}");
-    assert!(count.policies > 100 && count.requests > 100);
+    assert!(count.policies > 100 && count.requests > 100 && count.withdrawals > 100);
 }
 
 #[test]
@@ -97,11 +104,12 @@ fn on_generated_ones() {
         if count.policies >= wanted && count.requests >= wanted {
             break;
         }
-        let case = generate::case(seed, |_, _| (0, 0));
+        let case = generate::case(seed, |_| (0, 0));
         let mut random = Random::new(seed);
-        law(&case.policy, &case.request, &mut random, &mut count);
+        law(&case, &mut random, &mut count);
         if secpal::policy_refusal(&case.policy).is_none() {
-            law(&dressed(&case.policy, &mut random), &case.request, &mut random, &mut count);
+            let policy = dressed(&case.policy, &mut random);
+            law(&Call { policy, ..case }, &mut random, &mut count);
         }
     }
     println!("{count:?}");

@@ -88,6 +88,35 @@ fn whose_words_count() {
 }
 
 #[test]
+fn withdrawals() {
+    let (asked, file) = ("belt/otto.bin", "belt/withdrawals.secpal");
+    let ran = secpal(&["decide", "belt/belt.secpal", asked, "--withdrawals", file]);
+    let wanted = "deny: Works says Otto may-order encoder\n  does not follow from the statements of belt/belt.secpal, without those that \
+                  belt/withdrawals.secpal withdraws, on 2000-01-01\n";
+    assert_eq!((ran.status, ran.printed.as_str()), (1, wanted));
+    assert_eq!(secpal(&["decide", "belt/policy.bin", asked, "--withdrawals", "belt/withdrawals.bin"]).status, 1);
+    assert_eq!(secpal(&["reach", "belt/policy.bin", asked, "--withdrawals", file]).printed, "Works\nNorth\n");
+    let bytes = scratch("withdrawals.bin", b"");
+    assert_eq!(secpal(&["compile", "belt/belt.secpal", "--withdrawals", file, "-o", &bytes]).status, 0);
+    let examples = concat!(env!("CARGO_MANIFEST_DIR"), "/../examples/belt/withdrawals.bin");
+    assert_eq!(std::fs::read(&bytes).expect("the file"), std::fs::read(examples).expect("the example"));
+    assert_eq!(secpal(&["show", "belt/policy.bin", "--withdrawals", &bytes]).printed, "withdraw North #0.\n");
+    let ran = secpal(&["check", "belt/policy.bin", "--withdrawals", "belt/policy.bin"]);
+    assert!(ran.complained.starts_with("belt/policy.bin, byte 7: refused (3): "), "{}", ran.complained);
+    let ran = secpal(&["check", "belt/policy.bin", "--withdrawals"]);
+    assert_eq!((ran.status, ran.complained.as_str()), (2, "secpal: --withdrawals wants a file\n"));
+}
+
+/// A withdrawal with a constraint acts on some days and not on others.
+#[test]
+fn withdrawals_on_a_day() {
+    let file = scratch("permit.withdrawals", b"withdraw North #5 where 2026-03-01 <= today.\n");
+    let expected = scratch("permit.expect", b"on 2026-11-16\nanswers Works says ?x permit-from ?d are none.\non 2026-02-28\nanswers Works says ?x permit-from ?d are ?x = Otto, ?d = 2026-03-01.\n");
+    let ran = secpal(&["test", POLICY, &expected, "--withdrawals", &file]);
+    assert_eq!((ran.status, ran.printed.as_str()), (0, "2 as expected, 0 not\n"));
+}
+
+#[test]
 fn answers_for_programs() {
     let ran = secpal(&["decide", "belt/policy.bin", "belt/who.bin", "--json"]);
     let wanted =
@@ -118,7 +147,7 @@ fn expectations() {
 
 #[test]
 fn the_examples_are_in_their_layout() {
-    for file in ["belt/belt.secpal", "permits/permits.secpal", "permits/permits.expect"] {
+    for file in ["belt/belt.secpal", "permits/permits.secpal", "permits/permits.expect", "belt/withdrawals.secpal"] {
         assert_eq!(secpal(&["fmt", "--check", file]).status, 0, "{file}");
     }
     assert_eq!(secpal(&["show", "belt/policy.bin"]).printed, secpal(&["show", "belt/belt.secpal"]).printed);

@@ -1,5 +1,5 @@
 /*
- * How much stack a decision takes: stack FACT_BYTES FOLDER.. decides policy.bin and request.bin of each folder on a thread whose stack was filled
+ * How much stack a decision takes: stack FACT_BYTES FOLDER.. decides what stands in each folder on a thread whose stack was filled
  * with a pattern, and prints the most bytes that were written. What a thread takes to start and end is counted with it, some thousand bytes.
  */
 #include <pthread.h>
@@ -13,16 +13,16 @@
 enum { STACK = 16 << 20, PATTERN = 0xA5 };
 
 struct call {
-    file policy, request;
+    slices read;
     uint8_t answers[ANSWERS_LEN];
     uint8_t *facts;
     size_t facts_len;
 };
 
-static void *decide(void *argument)
+static void *decide_on_thread(void *argument)
 {
     struct call *c = argument;
-    secpal_decide(c->policy.bytes, c->policy.len, c->request.bytes, c->request.len, c->facts, c->facts_len, c->answers, sizeof c->answers);
+    decide(&c->read, c->facts, c->facts_len, c->answers, sizeof c->answers);
     return NULL;
 }
 
@@ -33,7 +33,7 @@ static size_t used(struct call *call, uint8_t *stack)
     pthread_t thread;
     memset(stack, PATTERN, STACK);
     if (pthread_attr_init(&attributes) || pthread_attr_setstack(&attributes, stack, STACK) ||
-        pthread_create(&thread, &attributes, decide, call) || pthread_join(thread, NULL)) {
+        pthread_create(&thread, &attributes, decide_on_thread, call) || pthread_join(thread, NULL)) {
         fprintf(stderr, "stack: no thread\n");
         exit(2);
     }
@@ -56,8 +56,7 @@ int main(int argc, char **argv)
         return fprintf(stderr, "stack: no memory\n"), 2;
     size_t most = 0;
     for (int i = 2; i < argc; i++) {
-        read_file(&call.policy, argv[i], "policy.bin");
-        read_file(&call.request, argv[i], "request.bin");
+        call.read = read_slices(argv[i]);
         size_t bytes = used(&call, stack);
         if (bytes > most)
             most = bytes;

@@ -32,15 +32,35 @@ fn refusal(report: &raw::Report) -> Refusal {
     Refusal { number: report.refusal, side: report.side, place: report.place }
 }
 
+/// A slice without entries.
+pub const NONE: &[u8] = &[1, 0, 0, 0, 2, 0, 0];
+
+/// The bytes that a decision reads, each of any content and any length.
+#[derive(Debug, Clone, Copy)]
+pub struct Slices<'a> {
+    pub policy: &'a [u8],
+    pub request: &'a [u8],
+    pub withdrawals: &'a [u8],
+}
+
+impl<'a> Slices<'a> {
+    /// A policy and a request, and nothing withdrawn.
+    pub fn new(policy: &'a [u8], request: &'a [u8]) -> Slices<'a> {
+        Slices { policy, request, withdrawals: NONE }
+    }
+}
+
 /// Decides the request under the policy. Records go to `facts`, answers to `answers`; what is not filled is 0.
-pub fn decide(policy: &[u8], request: &[u8], facts: &mut [u8], answers: &mut [u8]) -> Report {
+pub fn decide(slices: &Slices, facts: &mut [u8], answers: &mut [u8]) -> Report {
     // Each pointer is to as many bytes as its length says, and the borrows keep the two buffers apart from all else.
     let report = unsafe {
         raw::secpal_decide(
-            policy.as_ptr(),
-            policy.len(),
-            request.as_ptr(),
-            request.len(),
+            slices.policy.as_ptr(),
+            slices.policy.len(),
+            slices.request.as_ptr(),
+            slices.request.len(),
+            slices.withdrawals.as_ptr(),
+            slices.withdrawals.len(),
             facts.as_mut_ptr(),
             facts.len(),
             answers.as_mut_ptr(),
@@ -59,10 +79,20 @@ pub fn decide(policy: &[u8], request: &[u8], facts: &mut [u8], answers: &mut [u8
 
 /// Marks whose words count for the request: byte i becomes 1 if constant i is in the reach, else 0. A refusal, which is the one that a decision
 /// would give from the input, leaves the marks as they are.
-pub fn reach_into(policy: &[u8], request: &[u8], marks: &mut [u8]) -> Result<(), Refusal> {
+pub fn reach_into(slices: &Slices, marks: &mut [u8]) -> Result<(), Refusal> {
     // As above.
-    let report =
-        unsafe { raw::secpal_reach(policy.as_ptr(), policy.len(), request.as_ptr(), request.len(), marks.as_mut_ptr(), marks.len()) };
+    let report = unsafe {
+        raw::secpal_reach(
+            slices.policy.as_ptr(),
+            slices.policy.len(),
+            slices.request.as_ptr(),
+            slices.request.len(),
+            slices.withdrawals.as_ptr(),
+            slices.withdrawals.len(),
+            marks.as_mut_ptr(),
+            marks.len(),
+        )
+    };
     match report.refusal {
         0 => Ok(()),
         _ => Err(refusal(&report)),
@@ -70,15 +100,28 @@ pub fn reach_into(policy: &[u8], request: &[u8], marks: &mut [u8]) -> Result<(),
 }
 
 /// The same for every number that a constant can have.
-pub fn reach(policy: &[u8], request: &[u8]) -> Result<[bool; limits::CONSTANTS], Refusal> {
+pub fn reach(slices: &Slices) -> Result<[bool; limits::CONSTANTS], Refusal> {
     let mut marks = [0u8; limits::CONSTANTS];
-    reach_into(policy, request, &mut marks)?;
+    reach_into(slices, &mut marks)?;
     Ok(marks.map(|mark| mark != 0))
+}
+
+/// The first refusal that a decision gives from these slices.
+pub fn input_refusal(slices: &Slices) -> Option<Refusal> {
+    reach_into(slices, &mut []).err()
 }
 
 /// The refusal of a policy, if it is not accepted: an empty request is refused only after the policy was read.
 pub fn policy_refusal(policy: &[u8]) -> Option<Refusal> {
-    reach(policy, &[]).err().filter(|refusal| refusal.side == limits::SIDE_POLICY)
+    input_refusal(&Slices::new(policy, &[])).filter(|refusal| refusal.side == limits::SIDE_POLICY)
+}
+
+/// "today is today": a request that every policy accepts.
+const ANY_REQUEST: &[u8] = &[1, 0, 0, 0, 10, 0, 0, 0, 0, 2, 1, 0x40, 0, 0x40, 0];
+
+/// The refusal of withdrawals under a policy that is accepted, if they are not: they are read after the request.
+pub fn withdrawals_refusal(policy: &[u8], withdrawals: &[u8]) -> Option<Refusal> {
+    input_refusal(&Slices { withdrawals, ..Slices::new(policy, ANY_REQUEST) })
 }
 
 /// The label of a principal or thing: that part of the policy. For all else it is empty.

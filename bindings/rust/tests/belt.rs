@@ -1,5 +1,5 @@
 //! The wrapper on the belt policy, whose bytes docs/FORMAT.md lays out.
-use secpal::{limits, Refusal, Verdict};
+use secpal::{limits, Refusal, Slices, Verdict};
 
 fn example(name: &str) -> Vec<u8> {
     let path = format!("{}/../../examples/belt/{name}.bin", env!("CARGO_MANIFEST_DIR"));
@@ -10,7 +10,7 @@ fn example(name: &str) -> Vec<u8> {
 fn a_decision() {
     let (policy, request) = (example("policy"), example("who"));
     let (mut facts, mut answers) = (vec![0xAA; 1024], vec![0xAA; 64]);
-    let report = secpal::decide(&policy, &request, &mut facts, &mut answers);
+    let report = secpal::decide(&Slices::new(&policy, &request), &mut facts, &mut answers);
     assert_eq!((report.verdict, report.facts, report.rounds, report.answers), (Verdict::Allow, 10, 3, 1));
     assert_eq!(facts[..16], [0, 1, 0, 0, 1, 1, 0, 0, 0, 0, 0, 0, 1, 0, 0, 0]);
     assert!(facts[160..].iter().all(|byte| *byte == 0));
@@ -33,10 +33,24 @@ fn names_and_offsets() {
 #[test]
 fn reach() {
     let (policy, request) = (example("policy"), example("otto"));
-    let marks = secpal::reach(&policy, &request).expect("both are accepted");
+    let marks = secpal::reach(&Slices::new(&policy, &request)).expect("both are accepted");
     assert_eq!(marks.iter().filter(|mark| **mark).count(), 2);
     assert!(marks[0] && marks[1], "Works is asked, and lets North speak");
-    assert_eq!(secpal::reach(&policy, &[]), Err(Refusal { number: limits::BAD_VERSION, side: limits::SIDE_REQUEST, place: 0 }));
+    let no_request = Refusal { number: limits::BAD_VERSION, side: limits::SIDE_REQUEST, place: 0 };
+    assert_eq!(secpal::reach(&Slices::new(&policy, &[])), Err(no_request));
+}
+
+#[test]
+fn withdrawals() {
+    let (policy, request) = (example("policy"), example("otto"));
+    let withdrawals = example("withdrawals");
+    let slices = Slices { withdrawals: &withdrawals, ..Slices::new(&policy, &request) };
+    let (mut facts, mut answers) = (vec![0xAA; 1024], vec![0xAA; 64]);
+    let report = secpal::decide(&slices, &mut facts, &mut answers);
+    assert_eq!((report.verdict, report.facts, report.rounds, report.answers), (Verdict::Deny, 6, 1, 0));
+    let no_withdrawals = Refusal { number: limits::BAD_VERSION, side: limits::SIDE_WITHDRAWALS, place: 0 };
+    assert_eq!(secpal::input_refusal(&Slices { withdrawals: &[], ..slices }), Some(no_withdrawals));
+    assert_eq!(secpal::input_refusal(&Slices { withdrawals: secpal::NONE, ..slices }), None);
 }
 
 #[test]
@@ -45,7 +59,7 @@ fn a_policy_that_is_not_accepted() {
     policy[7] = 200; // the first constant's length
     let refusal = Refusal { number: limits::BAD_FORM, side: limits::SIDE_POLICY, place: 7 };
     assert_eq!(secpal::policy_refusal(&policy), Some(refusal));
-    assert_eq!(secpal::reach(&policy, &example("otto")), Err(refusal));
+    assert_eq!(secpal::reach(&Slices::new(&policy, &example("otto"))), Err(refusal));
     assert!(secpal::constants(&policy).is_empty() && secpal::verbs(&policy).is_empty());
     assert_eq!((secpal::label(&policy, 0), secpal::find(&policy, limits::PRINCIPAL, b"Works")), (&b""[..], None));
     assert_eq!(secpal::policy_refusal(&example("policy")), None);

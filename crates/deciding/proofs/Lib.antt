@@ -5,3 +5,4 @@ pub mod Reaching
 pub mod Answering
 pub mod Refusing
 pub mod MarkLaws
+pub mod Leaving

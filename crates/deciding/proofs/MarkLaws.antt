@@ -7,17 +7,12 @@ use native.Mathlib.Numerals.{add-one}
 use native.Mathlib.Omega.{arith}
 use lib.ListN.{length, getD, set, take, drop, length-map}
 use Rattle.model.specs.Lists.{member}
-use Rattle.model.specs.Syntax as syntax
-use Rattle.model.specs.Syntax.{Policy}
+use Rattle.model.specs.Syntax.{Read}
 use Rattle.model.specs.Bytes.{byteAt, bytesAt}
-use Rattle.model.specs.Policies.{Accepted, policyOf}
-use Rattle.model.specs.Deciding.{read}
-use Rattle.model.specs.Decision.{Slices, slices, Taken, refusedOn, readSlices}
+use Rattle.model.specs.Decision.{Slices, Taken, refusedOn, readSlices}
+use Rattle.model.specs.Theorems.{Inputs}
 use Rattle.demands.specs.Lookups.{reachOf, marksFrom, reached, reachedBy, whoseWords}
-use Rattle.policy.specs.declared.Index.{Index}
 use Rattle.reach.specs.Marks.{Marks}
-use Rattle.deciding.specs.Accepts.{Accepts}
-use Rattle.deciding.proofs.Accepting.{inputs}
 use Rattle.model.proofs.ByteFacts.{bytes-length, bytes-at}
 
 -- ---- a slice written from its front
@@ -56,13 +51,9 @@ bytes-marks l m h (suc n) i = ap₂ (λ (b : ℕ) (t : List ℕ). b ∷ t) (h i)
 
 -- ---- what the call tells
 
-module _ {policy request : List ℕ} {x : Index} {A : Accepted} {q : syntax.Request} (a : Accepts policy request x A q) where
-  abbrev P : Policy
-  P = policyOf A
-
-  pub accepted-words : (marks : List ℕ) → whoseWords (slices policy request) marks ≡ reached 0 0 0 (marksFrom (reachOf (read P q)) (length marks) 0)
-  unfolding whoseWords reachedBy
-  accepted-words marks = ap (λ (t : Taken). reachedBy t marks) (inputs a)
+pub accepted-words : (s : Slices) (R : Read) (marks : List ℕ) → Inputs s R → whoseWords s marks ≡ reached 0 0 0 (marksFrom (reachOf R) (length marks) 0)
+unfolding whoseWords reachedBy
+accepted-words s R marks i = ap (λ (t : Taken). reachedBy t marks) i
 
 -- ---- refusals
 

@@ -7,15 +7,16 @@ use Prim.Native.Nat.{ℕ, zero, suc, _≤_}
 use native.Mathlib.Omega.{arith}
 use lib.ListN.{length}
 use Rattle.model.specs.Syntax as syntax
-use Rattle.model.specs.Syntax.{Constant, Verb}
+use Rattle.model.specs.Syntax.{Constant, Verb, Withdrawal}
 use Rattle.model.specs.Bytes.{Reading, got, refused}
 use Rattle.model.specs.Policies.{Accepted, policyOf, readPolicy}
 use Rattle.model.specs.Nodes.{readRequest}
+use Rattle.model.specs.Entries.{readWithdrawals}
 use Rattle.model.specs.Decision.{Slices, Lent, slices, lent, Taken, accepted, refusedOn, sided, readSlices, untouched, decisionOf, decision}
 use Rattle.model.specs.Deciding.{read}
-use Rattle.model.proofs.DecisionFacts.{afterPolicy, on-policy}
+use Rattle.model.proofs.DecisionFacts.{afterRequest, afterPolicy, on-policy, on-request}
 use Rattle.demands.specs.Demands.{Call}
-use Rattle.demands.proofs.Numbers.{RefusesBy, ofRequest, request-numbers}
+use Rattle.demands.proofs.Numbers.{RefusesBy, ofRequest, ofWithdrawals, request-numbers, withdrawals-numbers}
 use Rattle.constraints.specs.Standing.{longest}
 use Rattle.phrases.specs.Tables.{Tables}
 use Rattle.policy.specs.Index as policies
@@ -25,9 +26,11 @@ use Rattle.policy.specs.declared.Answer.{Answer}
 use Rattle.policy.specs.declared.Answer.the-variants as answered
 use Rattle.request.specs.Requests as requests
 use Rattle.request.specs.declared.Request.{Request}
+use Rattle.withdrawals.specs.Reading as entries
+use Rattle.withdrawals.specs.declared.Withdrawals.{Withdrawals}
 use Rattle.program.proofs.Ready as ready
-use Rattle.deciding.specs.Accepts.{Accepts, Takes}
-use Rattle.deciding.proofs.Accepting.{tables}
+use Rattle.deciding.specs.Accepts.{Accepts, Takes, Withdraws}
+use Rattle.deciding.proofs.Accepting.{tables, tables-of}
 
 -- ---- the policy
 
@@ -91,14 +94,63 @@ module _ (policy request : List ℕ) (x : Index) (i : x ≡ policies.handedOut (
       refused-reading (policyOf A .verbs) reading (λ e. z (ap (λ (r : Request). r .refusal) handed ∙ e)) (r .refusal) (r .place)
       (ap (λ (r : Request). r .refusal) handed) (ap (λ (r : Request). r .place) handed)
 
-  pub request-taken : (r .refusal ≡ 0 → ⊥) → readSlices (slices policy request) ≡ refusedOn (r .refusal) 2 (r .place)
+  pub request-taken : (r .refusal ≡ 0 → ⊥) → (withdrawals : List ℕ) → readSlices (slices policy request withdrawals) ≡ refusedOn (r .refusal) 2 (r .place)
   unfolding sided
-  request-taken z =
+  request-taken z withdrawals =
       let w = policy-got in
-      on-policy (slices policy request) (policyOf (w .0)) (w .0, w .1, w .2, refl)
-      ∙ ap (λ (y : Reading syntax.Request). sided 2 y (λ (q : syntax.Request). accepted (read (policyOf (w .0)) q))) (reading-refused z)
+      let s = slices policy request withdrawals in
+      on-policy s (policyOf (w .0)) (w .0, w .1, w .2, refl)
+      ∙ ap (λ (y : Reading syntax.Request). sided 2 y (afterRequest s (policyOf (w .0)))) (reading-refused z)
 
-  pub request-call : (r .refusal ≡ 0 → ⊥) → (facts answers : List ℕ)
-      → (let l = lent policy request facts answers in Call l (untouched (r .refusal) 2 (r .place) l))
+  pub request-call : (r .refusal ≡ 0 → ⊥) → (withdrawals facts answers : List ℕ)
+      → (let l = lent policy request withdrawals facts answers in Call l (untouched (r .refusal) 2 (r .place) l))
   unfolding decision decisionOf
-  request-call z facts answers = sym (ap (λ (t : Taken). decisionOf t (lent policy request facts answers)) (request-taken z))
+  request-call z withdrawals facts answers =
+      sym (ap (λ (t : Taken). decisionOf t (lent policy request withdrawals facts answers)) (request-taken z withdrawals))
+
+-- ---- the withdrawals
+
+module _ {policy request : List ℕ} {x : Index} {r : Request} {A : Accepted} {q : syntax.Request} (k : Takes policy request x r A q) (withdrawals : List ℕ)
+    (w : Withdrawals) (means : (cs : List Constant) (vs : List Verb) (sg : List ℕ) → Tables cs vs (x .kinds) sg
+    → w ≡ entries.handedOut (readWithdrawals cs withdrawals)) where
+  abbrev entriesRead : Reading (List Withdrawal)
+  entriesRead = readWithdrawals (policyOf A .constants) withdrawals
+
+  entries-handed : w ≡ entries.handedOut entriesRead
+  entries-handed = means (policyOf A .constants) (policyOf A .verbs) (x .signatures) (tables-of (k .accepts))
+
+  accepted-entries : (y : Reading (List Withdrawal)) → entries.handedOut y .refusal ≡ 0 → ((n p : ℕ) → y ≡ refused n p → n ≡ 0 → ⊥)
+      → (ws : List Withdrawal) × (e : ℕ) × (y ≡ got ws e)
+  unfolding entries.handedOut
+  accepted-entries (got ws e) z f = (ws, e, refl)
+  accepted-entries (refused n p) z f = absurd (f n p refl z)
+
+  refused-entries : (y : Reading (List Withdrawal)) → (entries.handedOut y .refusal ≡ 0 → ⊥) → (n p : ℕ)
+      → n ≡ entries.handedOut y .refusal → p ≡ entries.handedOut y .place → y ≡ refused n p
+  unfolding entries.handedOut
+  refused-entries (got ws e) z n p a b = absurd (z refl)
+  refused-entries (refused m k) z n p a b = λ i. refused (sym a i) (sym b i)
+
+  entry-number : (n p : ℕ) → entriesRead ≡ refused n p → n ≡ 0 → ⊥
+  entry-number n p e z = subst (λ (m : ℕ). T (member m ofWithdrawals)) z
+      (subst (RefusesBy ofWithdrawals) e (withdrawals-numbers (policyOf A .constants) withdrawals))
+
+  pub withdraws : w .refusal ≡ 0 → (ws : List Withdrawal) × Withdraws withdrawals w A ws
+  withdraws z =
+      let y = accepted-entries entriesRead (ap (λ (w : Withdrawals). w .refusal) (sym entries-handed) ∙ z) entry-number in
+      (y .0, record { end = y .1; read = y .2; handed = entries-handed })
+
+  pub withdrawals-taken : (w .refusal ≡ 0 → ⊥) → readSlices (slices policy request withdrawals) ≡ refusedOn (w .refusal) 3 (w .place)
+  unfolding sided
+  withdrawals-taken z =
+      let a = k .accepts in
+      let s = slices policy request withdrawals in
+      let refuses = refused-entries entriesRead (λ e. z (ap (λ (w : Withdrawals). w .refusal) entries-handed ∙ e)) (w .refusal) (w .place)
+      (ap (λ (w : Withdrawals). w .refusal) entries-handed) (ap (λ (w : Withdrawals). w .place) entries-handed) in
+      on-request s (policyOf A) q (A, a .end, a .read, refl) (a .last, a .asked)
+      ∙ ap (λ (y : Reading (List Withdrawal)). sided 3 y (λ (ws : List Withdrawal). accepted (read (policyOf A) q ws))) refuses
+
+  pub withdrawals-call : (w .refusal ≡ 0 → ⊥) → (facts answers : List ℕ)
+      → (let l = lent policy request withdrawals facts answers in Call l (untouched (w .refusal) 3 (w .place) l))
+  unfolding decision decisionOf
+  withdrawals-call z facts answers = sym (ap (λ (t : Taken). decisionOf t (lent policy request withdrawals facts answers)) (withdrawals-taken z))

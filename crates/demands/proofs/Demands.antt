@@ -11,10 +11,12 @@ use Rattle.model.specs.Deciding.{countedIn}
 use Rattle.model.specs.Decision.{Lent, allow, deny, refusal, Report, report, capacity, room, word, cleared, reported, decision}
 use Rattle.model.specs.Theorems.{Inputs, DerivableIn, AnswerIn, IsDecision, ListedIn, MeantBy, IssuedOutside}
 use Rattle.model.proofs.ClosureFacts.{derives→within, first-unique}
+use Rattle.model.proofs.WithdrawalFacts.{left↔}
 use Rattle.model.proofs.Theorems as M
 use Rattle.demands.specs.Demands as Q
 use Rattle.demands.specs.Demands.{TableOf, AnswersOf, AnsweredAs, Unmarked}
-use Rattle.demands.proofs.Sides.{number-of, no-refusal, word-decides, made-answered, policy-kept, policy-side, request-kept, request-side, was-accepted}
+use Rattle.demands.proofs.Sides.{number-of, no-refusal, word-decides, made-answered, policy-kept, policy-side, request-kept, request-side}
+use Rattle.demands.proofs.Sides.{withdrawals-kept, withdrawals-side, was-accepted}
 use Rattle.demands.proofs.Marking.{marks-of, adds-by}
 use Rattle.demands.proofs.Holding.{counts↔, entry-derives, first-round, table-fits, record-length, table-of, answers-of}
 
@@ -78,6 +80,8 @@ module _ (l : Lent) where
     policyKeeps = policy-kept l;
     requestSide = request-side l;
     requestKeeps = request-kept l;
+    withdrawalsSide = withdrawals-side l;
+    withdrawalsKeeps = withdrawals-kept l;
     eight = M.eight l;
     eightLeaves = λ R h v. let m = M.meaning l R h in eight-leaves l R h (m .2) (m .1) v;
     nine = M.nine l;
@@ -123,6 +127,9 @@ theRounds R x = (
 pub theReach : Q.TheReach
 theReach = counts↔
 
+pub whatIsLeft : Q.WhatIsLeft
+whatIsLeft R a = left↔ (worldIn R) a (R .withdrawals) (R .policy .assertions)
+
 pub theRecords : Q.TheRecords
 theRecords = ((λ s R h e f. record-length R s h e f), M.recordsTell)
 
@@ -140,6 +147,17 @@ growingCall l longer R L ρ ρ′ c c′ h a x p d d′ θ k =
 
 pub insidersSay : Q.InsidersSay
 insidersSay = M.insiders
+
+-- ---- withdrawals
+
+pub withdrawnCall : Q.WithdrawnCall
+withdrawnCall l other R L ρ ρ′ c c′ h a e = c′ ∙ (M.withdrawnIsAbsent l other R L h a e ∙ sym c)
+
+pub withoutEntries : Q.WithoutEntries
+withoutEntries = M.nothingWithdrawn
+
+pub serialsCall : Q.SerialsCall
+serialsCall l other R L ρ ρ′ c c′ h a none e = c′ ∙ (M.serialsAside l other R L h a none e ∙ sym c)
 
 -- ---- whose words count
 

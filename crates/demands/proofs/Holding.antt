@@ -18,6 +18,8 @@ use Rattle.model.specs.Meant.{AtMost, Distinct, Ascends, Enumerates, itself}
 use Rattle.model.specs.Rounds.{lastRound}
 use Rattle.model.specs.Steps.{eqSaid, step}
 use Rattle.model.specs.Deciding.{countedIn}
+use Rattle.model.specs.Withdrawals.{leftIn}
+use Rattle.model.proofs.WithdrawalFacts.{counted-in}
 use Rattle.model.specs.Decision.{Slices, Lent, Verdict, allow, deny, report, capacity, room, atFront}
 use Rattle.model.specs.Theorems.{Inputs, DerivableIn, EntryIn, AnswerIn, InReach, answerIn}
 use Rattle.model.proofs.Order.{before-irrefl, ascends-distinct}
@@ -59,8 +61,8 @@ none = (0, said 0 0 (flat 0 0 []))
 
 -- ---- the reach and the rounds
 
-pub counts↔ : (R : Read) (a : Assertion) → List·Memᴰ a (countedIn R) ↔ (List·Memᴰ a (R .policy .assertions) × InReach R (a .issuer))
-counts↔ R a = computedReach (worldIn R) (R .policy .assertions) (issuers (R .request .node) (worldIn R)) .1 a
+pub counts↔ : (R : Read) (a : Assertion) → List·Memᴰ a (countedIn R) ↔ (List·Memᴰ a (leftIn R) × InReach R (a .issuer))
+counts↔ R a = computedReach (worldIn R) (leftIn R) (issuers (R .request .node) (worldIn R)) .1 a
 
 module _ (R : Read) where
   abbrev W : World
@@ -88,7 +90,7 @@ module _ (R : Read) where
     pub record-length : (e : Entry) → EntryIn R e → length (recordOf e) ≡ recordBytes
     record-length e f =
         let read = slice-by-slice s R h .readAs in
-        ap (λ (n : ℕ). suc (suc n)) (key-length (e .1) (shaped W 𝒜 (λ a m. policy-formed (s .policy) (R .policy) read a (counts↔ R a .0 m .0)) (e .1)
+        ap (λ (n : ℕ). suc (suc n)) (key-length (e .1) (shaped W 𝒜 (λ a m. policy-formed (s .policy) (R .policy) read a (counted-in R a m)) (e .1)
         (entry-derives (e .0) (e .1) f)))
 
   module _ (l : Lent) (h : Inputs (l .slices) R) where

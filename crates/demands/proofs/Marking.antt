@@ -10,6 +10,7 @@ use lib.Dec.{T}
 use Rattle.model.specs.Lists.{member}
 use Rattle.model.specs.Syntax.{Assertion, Read, worldIn}
 use Rattle.model.specs.Requests.{issuers}
+use Rattle.model.specs.Withdrawals.{leftIn}
 use Rattle.model.specs.Bytes.{byteAt}
 use Rattle.model.specs.Decision.{Slices, Taken}
 use Rattle.model.specs.Theorems.{Inputs, InReach, Adds, done, keeps, adds}
@@ -60,7 +61,7 @@ module _ (s : Slices) (R : Read) (marks : List ℕ) (h : Inputs s R) where
   inside : (i : ℕ) → i < length marks → (byteAt (marksFrom set (length marks) 0) i ≡ 1) ↔ InReach R i
   inside i l =
       let m = one-in i set _ (mark-is i l) in
-      let c = computedReach (worldIn R) (R .policy .assertions) (issuers (R .request .node) (worldIn R)) .0 i in
+      let c = computedReach (worldIn R) (leftIn R) (issuers (R .request .node) (worldIn R)) .0 i in
       (λ k. c .0 (m .0 k), λ k. m .1 (c .1 k))
 
   marks-given : MarksOf R marks (reached 0 0 0 (marksFrom set (length marks) 0))

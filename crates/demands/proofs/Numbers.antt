@@ -1,11 +1,11 @@
--- The numbers of the refusals from the input: the policy's are 1 to 6, the request's 1, 2, 3, 5 and 7.
+-- The numbers of the refusals from the input: the policy's are 1 to 6, the request's 1, 2, 3, 5 and 7, the withdrawals' 1, 2, 3, 5 and 10.
 use mathlib.Core.List.{List, [], _∷_, _++_}
 use mathlib.Core.Bool.{Bool, true, false}
 use Prim.Native.Nat.{ℕ, zero, suc, _+_}
 use lib.Dec.{T}
 use Rattle.model.specs.Limits.{maxDepth, version}
 use Rattle.model.specs.Lists.{member}
-use Rattle.model.specs.Syntax.{Assertion, Constant, Verb, Request}
+use Rattle.model.specs.Syntax.{Assertion, Withdrawal, Constant, Verb, Request}
 use Rattle.model.specs.Kinds.{Demands}
 use Rattle.model.specs.Bytes.{byteAt, choose, Reading, got, refused, andThen}
 use Rattle.model.specs.Readings.{Sort, saysSort, testSort, allSort, anySort, notSort, existsSort, noSort, sortOf, assertionAt}
@@ -17,6 +17,8 @@ use Rattle.model.proofs.PolicyReader.{policy-is}
 use Rattle.model.specs.Policies.{computedPolicy}
 use Rattle.model.proofs.RequestReader.{request-is}
 use Rattle.model.specs.Nodes.{computedRequest}
+use Rattle.model.proofs.EntryReader.{withdrawals-is}
+use Rattle.model.specs.Entries.{withdrawalItem, computedWithdrawals, readWithdrawals}
 
 -- a reading that refuses with a number of the list, if it refuses
 abbrev pub RefusesBy : List ℕ → {A : Type 0} → Reading A → Type 0
@@ -142,3 +144,20 @@ module _ (cs : List Constant) (vs : List Verb) (s : List ℕ) where
       (by-choice ofRequest _ _ _ tt (by-choice ofRequest _ _ _ tt
       (by-turns ofRequest _ _ (nodes-numbers maxDepth _ _) (λ D p. by-turns ofRequest _ _ (by-end ofRequest s _ p tt) safe-numbers))))
       )
+
+-- ---- the withdrawals
+
+abbrev pub ofWithdrawals : List ℕ
+ofWithdrawals = 1 ∷ 2 ∷ 3 ∷ 5 ∷ 10 ∷ []
+
+withdrawal-numbers : (cs : List Constant) (s : List ℕ) (earlier : List Withdrawal) (at : ℕ) → RefusesBy ofWithdrawals (withdrawalItem cs s earlier at)
+unfolding withdrawalItem
+withdrawal-numbers cs s earlier at =
+    by-choice ofWithdrawals _ _ _ (by-choice ofWithdrawals _ _ _ (by-choice ofWithdrawals _ _ _ tt tt) tt) tt
+
+pub withdrawals-numbers : (cs : List Constant) (s : List ℕ) → RefusesBy ofWithdrawals (readWithdrawals cs s)
+unfolding computedWithdrawals
+withdrawals-numbers cs s = rw (withdrawals-is cs s) (
+    by-head ofWithdrawals version s _ tt tt
+    (by-turns ofWithdrawals _ _ (by-list ofWithdrawals s _ _ _ tt (withdrawal-numbers cs s) _) (λ ws e. by-end ofWithdrawals s _ e tt))
+    )

@@ -4,18 +4,18 @@ use mathlib.Core.Logic.{_↔_}
 use mathlib.Core.List.{List, [], _∷_, List·Memᴰ, List·Memᴰ·head, List·Memᴰ·tail}
 use Prim.Native.Nat.{ℕ, suc}
 use native.Mathlib.Omega.{arith}
-use Rattle.model.specs.Syntax.{Policy, Request, Read}
+use Rattle.model.specs.Syntax.{Policy, Request, Withdrawal, Read}
 use Rattle.model.specs.Meant.{Outcome, tooManyFacts, tooManyAnswers, decided}
 use Rattle.model.specs.Deciding.{decide, read}
 use Rattle.model.specs.Bytes.{Reading, got, refused}
 use Rattle.model.specs.Policies.{Accepted, policyOf, readPolicy}
-use Rattle.model.specs.Decision.{Slices, Lent, Taken, accepted, refusedOn, requestUnder, sided, readSlices}
+use Rattle.model.specs.Decision.{Slices, Lent, Taken, accepted, refusedOn, requestUnder, withdrawalsUnder, sided, readSlices}
 use Rattle.model.specs.Decision.{Verdict, refusal, Report, capacity, room, word, untouched, reported, decisionOf, decision}
-use Rattle.model.specs.Theorems.{ReadAs, Inputs, IsDecision}
+use Rattle.model.specs.Theorems.{ReadAs, AskedAs, Inputs, IsDecision}
 use Rattle.model.proofs.ListFacts.{member-of}
-use Rattle.model.proofs.DecisionFacts.{afterPolicy, on-policy}
+use Rattle.model.proofs.DecisionFacts.{afterRequest, afterPolicy, on-policy, on-request}
 use Rattle.demands.specs.Demands.{Answered}
-use Rattle.demands.proofs.Numbers.{RefusesBy, ofPolicy, ofRequest, policy-numbers, request-numbers}
+use Rattle.demands.proofs.Numbers.{RefusesBy, ofPolicy, ofRequest, ofWithdrawals, policy-numbers, request-numbers, withdrawals-numbers}
 
 -- ---- verdicts differ
 
@@ -114,8 +114,16 @@ module _ (l : Lent) where
   unfolding decision readSlices
   made-answered =
       sided-answered 1 (λ (A : Accepted). afterPolicy s (policyOf A)) (readPolicy (s .policy)) l ofPolicy (policy-numbers (s .policy)) (λ n p m. m)
-      (λ A. let P = policyOf A in sided-answered 2 (λ (q : Request). accepted (read P q)) (requestUnder P s) l ofRequest
-      (request-numbers (P .constants) (P .verbs) (s .request)) (λ n p m. m) (λ q. accepted-answered (read P q) l))
+      (λ A. let P = policyOf A in
+      sided-answered 2 (afterRequest s P) (requestUnder P s) l ofRequest (request-numbers (P .constants) (P .verbs) (s .request)) (λ n p m. m)
+      (λ q. sided-answered 3 (λ (ws : List Withdrawal). accepted (read P q ws)) (withdrawalsUnder P s) l ofWithdrawals
+      (withdrawals-numbers (P .constants) (s .withdrawals)) (λ n p m. m)
+      (λ ws. accepted-answered (read P q ws) l)))
+
+  -- what is read after a slice has none of the sides before
+  later-sides : (P : Policy) (q : Request) (n t p : ℕ) → (3 ≡ t → ⊥) → afterRequest s P q ≡ refusedOn n t p → ⊥
+  later-sides P q n t p d =
+      sided-other 3 (λ (ws : List Withdrawal). accepted (read P q ws)) (withdrawalsUnder P s) n t p d (λ ws. not-refused (read P q ws) n t p)
 
   pub policy-kept : (n p : ℕ) → readPolicy (s .policy) ≡ refused n p → made ≡ untouched n 1 p l
   unfolding decision readSlices sided
@@ -125,23 +133,38 @@ module _ (l : Lent) where
   unfolding decision readSlices
   policy-side n p = (
     λ e. sided-refused 1 (λ (A : Accepted). afterPolicy s (policyOf A)) (readPolicy (s .policy)) n p
-        (λ A. let P = policyOf A in sided-other 2 (λ (q : Request). accepted (read P q)) (requestUnder P s) n 1 p (λ z. omega arith)
-        (λ q. not-refused (read P q) n 1 p)) (of-side (readSlices s) l n 0 p e),
+        (λ A. let P = policyOf A in sided-other 2 (afterRequest s P) (requestUnder P s) n 1 p (λ z. omega arith)
+        (λ q. later-sides P q n 1 p (λ z. omega arith))) (of-side (readSlices s) l n 0 p e),
     λ e. ap (λ (ρ : Report). ρ .verdict) (policy-kept n p e),
   )
 
   pub request-kept : (P : Policy) → ReadAs (s .policy) P → (n p : ℕ) → requestUnder P s ≡ refused n p → made ≡ untouched n 2 p l
   unfolding decision sided
   request-kept P h n p e =
-      of-kept (readSlices s) l n 2 p (on-policy s P h ∙ ap (λ (r : Reading Request). sided 2 r (λ (q : Request). accepted (read P q))) e)
+      of-kept (readSlices s) l n 2 p (on-policy s P h ∙ ap (λ (r : Reading Request). sided 2 r (afterRequest s P)) e)
 
   pub request-side : (P : Policy) → ReadAs (s .policy) P → (n p : ℕ) → (made .verdict ≡ refusal n 2 p) ↔ (requestUnder P s ≡ refused n p)
   unfolding decision
   request-side P h n p = (
-    λ e. sided-refused 2 (λ (q : Request). accepted (read P q)) (requestUnder P s) n p (λ q. not-refused (read P q) n 2 p)
+    λ e. sided-refused 2 (afterRequest s P) (requestUnder P s) n p (λ q. later-sides P q n 2 p (λ z. omega arith))
         (sym (on-policy s P h) ∙ of-side (readSlices s) l n 1 p e),
     λ e. ap (λ (ρ : Report). ρ .verdict) (request-kept P h n p e),
   )
+
+  module _ (P : Policy) (q : Request) (h : ReadAs (s .policy) P) (k : AskedAs P (s .request) q) where
+    pub withdrawals-kept : (n p : ℕ) → withdrawalsUnder P s ≡ refused n p → made ≡ untouched n 3 p l
+    unfolding decision sided
+    withdrawals-kept n p e =
+        of-kept (readSlices s) l n 3 p (on-request s P q h k
+        ∙ ap (λ (r : Reading (List Withdrawal)). sided 3 r (λ (ws : List Withdrawal). accepted (read P q ws))) e)
+
+    pub withdrawals-side : (n p : ℕ) → (made .verdict ≡ refusal n 3 p) ↔ (withdrawalsUnder P s ≡ refused n p)
+    unfolding decision
+    withdrawals-side n p = (
+      λ e. sided-refused 3 (λ (ws : List Withdrawal). accepted (read P q ws)) (withdrawalsUnder P s) n p (λ ws. not-refused (read P q ws) n 3 p)
+          (sym (on-request s P q h k) ∙ of-side (readSlices s) l n 2 p e),
+      λ e. ap (λ (ρ : Report). ρ .verdict) (withdrawals-kept n p e),
+    )
 
   -- a decision is on inputs that were accepted
   pub was-accepted : IsDecision (made .verdict) → (R : Read) × Inputs s R

@@ -1,4 +1,5 @@
--- The three demands, as statements about calls of the engine. `proofs/Demands.antt` has a proof of each, under the same name with a small first letter.
+-- The three demands, and what request 02 adds, as statements about calls of the engine. `proofs/Demands.antt` has a proof of each, under the same name with a
+-- small first letter.
 use mathlib.Core.Path.{_≡_}
 use mathlib.Core.Logic.{_↔_, _⊎_}
 use mathlib.Core.List.{List, [], _∷_, List·Memᴰ}
@@ -7,15 +8,18 @@ use lib.ListN.{length, take, drop}
 use lib.Dec.{T}
 use Rattle.model.specs.Limits.{recordBytes, answerBytes}
 use Rattle.model.specs.Lists.{before}
-use Rattle.model.specs.Syntax.{Assertion, Policy, Read, Said}
+use Rattle.model.specs.Syntax.{con, Constraint, Assertion, Withdrawal, Policy, Request, Read, worldIn, Said}
+use Rattle.model.specs.Values.{passes}
+use Rattle.model.specs.Withdrawals.{noBinding, leftIn}
 use Rattle.model.specs.Records.{Entry, recordOf}
 use Rattle.model.specs.Meant.{MoreThan, AtMost}
-use Rattle.model.specs.Deciding.{countedIn}
+use Rattle.model.specs.Deciding.{read, countedIn}
 use Rattle.model.specs.Bytes.{byteAt, refused}
 use Rattle.model.specs.Layout.{readPolicy}
-use Rattle.model.specs.Decision.{Slices, Lent, requestUnder, Verdict, allow, deny, refusal, Report, report, capacity, room, cleared, untouched, decision}
-use Rattle.model.specs.Theorems.{ReadAs, Inputs, DerivableIn, EntryIn, AnswerIn, InReach, Longer, withPolicy, IssuedOutside, Anyone, Positive, IsDecision}
-use Rattle.model.specs.Theorems.{answerIn, ListedIn, RecordsTell, Insiders}
+use Rattle.model.specs.Decision.{Slices, Lent, requestUnder, withdrawalsUnder, Verdict, allow, deny, refusal, Report, report, capacity, room, cleared}
+use Rattle.model.specs.Decision.{untouched, decision}
+use Rattle.model.specs.Theorems.{ReadAs, AskedAs, Inputs, DerivableIn, EntryIn, AnswerIn, InReach, Longer, withPolicy, IssuedOutside, Anyone, Positive}
+use Rattle.model.specs.Theorems.{IsDecision, answerIn, ListedIn, RecordsTell, Insiders, withoutEntries, withWithdrawals, withAssertions, withoutSerials}
 use Rattle.demands.specs.Lookups.{Reached, whoseWords}
 
 -- what the contract of `decide` says of a call: ρ is what it returned, and what both buffers hold then
@@ -67,14 +71,16 @@ pub record AnswersOf (l : Lent) (R : Read) (ρ : Report) : Type 0 where
 -- refusals with a place, each on its written condition and no other; in either case the buffers' content is laid down."
 -- The contract is an equation for every call, and that the code ends is proved with it. What the equation says:
 
--- a decision, or a refusal with a number of its side: the state's 8 and 9, the policy's 1 to 6, the request's 1, 2, 3, 5 and 7
+-- a decision, or a refusal with a number of its side: the state's 8 and 9, the policy's 1 to 6, the request's 1, 2, 3, 5 and 7, the withdrawals' 1, 2, 3, 5
+-- and 10
 abbrev pub Answered : Verdict → Type 0
 Answered allow = Unit {0}
 Answered deny = Unit {0}
 Answered (refusal n zero p) = List·Memᴰ n (8 ∷ 9 ∷ []) × (p ≡ 0)
 Answered (refusal n (suc zero) p) = List·Memᴰ n (1 ∷ 2 ∷ 3 ∷ 4 ∷ 5 ∷ 6 ∷ [])
 Answered (refusal n (suc (suc zero)) p) = List·Memᴰ n (1 ∷ 2 ∷ 3 ∷ 5 ∷ 7 ∷ [])
-Answered (refusal n (suc (suc (suc s))) p) = ⊥
+Answered (refusal n (suc (suc (suc zero))) p) = List·Memᴰ n (1 ∷ 2 ∷ 3 ∷ 5 ∷ 10 ∷ [])
+Answered (refusal n (suc (suc (suc (suc s)))) p) = ⊥
 
 pub record AnsweredAs (l : Lent) (ρ : Report) : Type 0 where
   pub answered : Answered (ρ .verdict)
@@ -86,6 +92,11 @@ pub record AnsweredAs (l : Lent) (ρ : Report) : Type 0 where
   -- side 2, where the policy is accepted, exactly if the request reader refuses
   pub requestSide : (P : Policy) → ReadAs (l .slices .policy) P → (n p : ℕ) → (ρ .verdict ≡ refusal n 2 p) ↔ (requestUnder P (l .slices) ≡ refused n p)
   pub requestKeeps : (P : Policy) → ReadAs (l .slices .policy) P → (n p : ℕ) → requestUnder P (l .slices) ≡ refused n p → ρ ≡ untouched n 2 p l
+  -- side 3, where policy and request are accepted, exactly if the reader of the withdrawals refuses. "From here on demand 1 covers each added slice"
+  pub withdrawalsSide : (P : Policy) (q : Request) → ReadAs (l .slices .policy) P → AskedAs P (l .slices .request) q
+      → (n p : ℕ) → (ρ .verdict ≡ refusal n 3 p) ↔ (withdrawalsUnder P (l .slices) ≡ refused n p)
+  pub withdrawalsKeeps : (P : Policy) (q : Request) → ReadAs (l .slices .policy) P → AskedAs P (l .slices .request) q
+      → (n p : ℕ) → withdrawalsUnder P (l .slices) ≡ refused n p → ρ ≡ untouched n 3 p l
   -- "8 more derivable facts than capacity, and only then: fact buffer all 0, answer buffer untouched, counts 0."
   pub eight : (R : Read) → Inputs (l .slices) R → (ρ .verdict ≡ refusal 8 0 0) ↔ MoreThan (capacity (l .factBuffer)) (DerivableIn R)
   pub eightLeaves : (R : Read) → Inputs (l .slices) R → ρ .verdict ≡ refusal 8 0 0
@@ -116,15 +127,21 @@ TheAnswers = (l : Lent) (R : Read) (ρ : Report) → Call l ρ → Inputs (l .sl
 abbrev pub TheRounds : Type 0
 TheRounds = (R : Read) (x : Said) → (DerivableIn R x ↔ ((r : ℕ) × EntryIn R (r, x))) × ((r s : ℕ) → EntryIn R (r, x) → EntryIn R (s, x) → r ≡ s)
 
--- "the statements within the request's reach": those of the policy's assertions whose issuer is in the least set
+-- "the statements within the request's reach": those of the assertions that are left whose issuer is in the least set. "Reach and derivation use what is left."
 abbrev pub TheReach : Type 0
-TheReach = (R : Read) (a : Assertion) → List·Memᴰ a (countedIn R) ↔ (List·Memᴰ a (R .policy .assertions) × InReach R (a .issuer))
+TheReach = (R : Read) (a : Assertion) → List·Memᴰ a (countedIn R) ↔ (List·Memᴰ a (leftIn R) × InReach R (a .issuer))
+
+-- what is left: those of the policy's assertions for which no entry has their issuer, their serial, and constraints that all hold
+abbrev pub WhatIsLeft : Type 0
+WhatIsLeft = (R : Read) (a : Assertion) → List·Memᴰ a (leftIn R) ↔ (List·Memᴰ a (R .policy .assertions)
+    × ((w : Withdrawal) → List·Memᴰ w (R .withdrawals) → w .issuer ≡ con (a .issuer) → w .serial ≡ a .serial
+    → ¬ ((c : Constraint) → List·Memᴰ c (w .tests) → T (passes (worldIn R) noBinding c))))
 
 -- a record has 16 bytes, and they tell statement and round
 abbrev pub TheRecords : Type 0
 TheRecords = ((s : Slices) (R : Read) → Inputs s R → (e : Entry) → EntryIn R e → length (recordOf e) ≡ recordBytes) × RecordsTell
 
--- ---- demand 3, over two calls "on one request, with buffers alike in length and in every byte at entry"
+-- ---- demand 3, over two calls "on one request, with buffers alike in length and in every byte at entry", "where both runs have the same withdrawals"
 
 -- "If every added issuer is outside the reach in the shorter policy, result and both buffers are the same, byte for byte."
 abbrev pub OutsidersCall : Type 0
@@ -140,6 +157,23 @@ GrowingCall = (l : Lent) (longer : List ℕ) (R : Read) (L : Policy) (ρ ρ′ :
 -- "Each issuer in the reach says the same, in the same rounds, when assertions from outside it count too": no calls in it, so it stands as in the model
 abbrev pub InsidersSay : Type 0
 InsidersSay = Insiders
+
+-- ---- withdrawals (request 02): a withdrawn statement is as one that is not there
+
+-- with withdrawals the report is that of the same call without entries, on a policy that differs in its assertions alone, these being what is left
+abbrev pub WithdrawnCall : Type 0
+WithdrawnCall = (l : Lent) (other : List ℕ) (R : Read) (L : Policy) (ρ ρ′ : Report) → Call l ρ → Call (withWithdrawals withoutEntries (withPolicy other l)) ρ′
+    → Inputs (l .slices) R → ReadAs other L → L ≡ withAssertions (leftIn R) (R .policy) → ρ′ ≡ ρ
+
+-- without entries nothing is withdrawn: the slice is accepted, and all of the policy's assertions are left
+abbrev pub WithoutEntries : Type 0
+WithoutEntries = (s : Slices) (P : Policy) (q : Request) → s .withdrawals ≡ withoutEntries → ReadAs (s .policy) P → AskedAs P (s .request) q
+    → Inputs s (read P q []) × (leftIn (read P q []) ≡ P .assertions)
+
+-- and then "serial (no effect)": two policies alike but for serials give the same report
+abbrev pub SerialsCall : Type 0
+SerialsCall = (l : Lent) (other : List ℕ) (R : Read) (L : Policy) (ρ ρ′ : Report) → Call l ρ → Call (withPolicy other l) ρ′
+    → Inputs (l .slices) R → ReadAs other L → R .withdrawals ≡ [] → withoutSerials L ≡ withoutSerials (R .policy) → ρ′ ≡ ρ
 
 -- ---- whose words count: what a call of `secpal_reach` gives, and what demand 3 makes of it
 

@@ -10,6 +10,7 @@ use Rattle.model.specs.Syntax.{Constant, Read, worldIn}
 use Rattle.model.specs.Kinds.{noConstant}
 use Rattle.model.specs.Values.{alike}
 use Rattle.model.specs.Requests.{issuers}
+use Rattle.model.specs.Withdrawals.{leftIn}
 use Rattle.model.specs.Reached.{reach}
 use Rattle.model.specs.Bytes.{choose, Reading, got, refused}
 use Rattle.model.specs.Reader.{Item, contents}
@@ -60,7 +61,7 @@ numberIn (refused n p) kind label = noNumber
 
 -- the reach of a request, as a list of constants
 abbrev pub reachOf : Read → List ℕ
-reachOf R = reach (worldIn R) (R .policy .assertions) (issuers (R .request .node) (worldIn R))
+reachOf R = reach (worldIn R) (leftIn R) (issuers (R .request .node) (worldIn R))
 
 -- for each of n numbers from i on, 1 if it is in the list, else 0
 unfoldable pub marksFrom : List ℕ → ℕ → ℕ → List ℕ

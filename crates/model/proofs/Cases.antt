@@ -11,22 +11,23 @@ use Rattle.model.specs.Bytes.{u16At, u32At, choose, andThen}
 use Rattle.model.specs.Reader.{sized, times, items, byte, u16, u32, byteIn, rest, list}
 use Rattle.model.specs.Calendar.{daysOfYears, daysOfMonths, dateOf, yearAfter}
 use Rattle.model.specs.Layout.{Accepted, policyOf, label, constant, verb, expr, constraint, levels, fact, assertion, constantItem, verbItem}
-use Rattle.model.specs.Layout.{assertionItem, asking, parts, node, slice, readPolicy, readRequest}
+use Rattle.model.specs.Layout.{assertionItem, withdrawal, withdrawalItem, asking, parts, node, slice, readPolicy, readRequest, readWithdrawals}
 use Rattle.model.specs.Deciding.{read}
 use Rattle.model.specs.Decision.{sided, readSlices, decisionOf, decision}
 use Rattle.model.specs.Theorems.{done, keeps, adds}
 use Rattle.model.proofs.ListFacts.{member-in}
 use Rattle.model.proofs.ReachFacts.{reach-in}
-use Rattle.model.specs.Cases.{P, Q, longerP, Belt, Turnings, Readings, BeltPair}
+use Rattle.model.specs.Cases.{P, Q, longerP, Belt, Turnings, Readings, Withdrawing, BeltPair}
 
-rows : Belt × Turnings × Readings
+rows : Belt × Turnings × Readings × Withdrawing
 unfolding
     u16At u32At choose andThen
     sized times items byte u16 u32 byteIn rest list
     label constant verb expr constraint levels fact assertion constantItem verbItem assertionItem asking parts node slice readPolicy readRequest
+    withdrawal withdrawalItem readWithdrawals
     daysOfYears daysOfMonths dateOf yearAfter
     sided readSlices decisionOf decision
-rows = (refl, refl, refl)
+rows = (refl, refl, refl, refl)
 
 pub belt : Belt
 belt = rows .0
@@ -36,6 +37,9 @@ turnings = rows .1
 
 pub readings : Readings
 readings = rows .2
+
+pub withdrawing : Withdrawing
+withdrawing = rows .3
 
 -- ---- demand 3 on the belt
 
@@ -69,9 +73,10 @@ unfolding
     u16At u32At choose andThen
     sized times items byte u16 u32 byteIn rest list
     label constant verb expr constraint levels fact assertion constantItem verbItem assertionItem asking parts node slice readPolicy readRequest
+    withdrawal withdrawalItem readWithdrawals
     sided readSlices decisionOf decision
 beltPair = record {
-  shorter = read short asked;
+  shorter = read short asked [];
   longer = long;
   inputs = refl;
   longerRead = (accepted (readPolicy longerP), 130, refl, refl);

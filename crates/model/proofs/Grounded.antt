@@ -9,20 +9,19 @@ use lib.Dec.{T, eqb, leb, leb→le, eqb→eq}
 use Rattle.model.specs.Limits.{principal, quantity, unlimited, unbound, canActAs}
 use Rattle.model.specs.Lists.{all, each, member}
 use Rattle.model.specs.Syntax.{Expr, con, var, today, Fact, flat, canSay, mapFact, about, Assertion, Constant, Verb}
-use Rattle.model.specs.Syntax.{Policy, Request, World, worldOf, Said, said, varsOf}
+use Rattle.model.specs.Syntax.{Policy, World, Read, worldIn, Said, said, varsOf}
 use Rattle.model.specs.Kinds.{kindAt, paramKinds, Demands, demandsOf, places, pair, inPlace, comparable, fitting}
 use Rattle.model.specs.Values.{bound}
 use Rattle.model.specs.Binding.{Fits, Binds, inPlaces}
 use Rattle.model.specs.Closure.{by}
 use Rattle.model.specs.Rules.{Rule, cond, canSays, actsAs}
-use Rattle.model.specs.Requests.{issuers}
 use Rattle.model.specs.Records.{Arity}
-use Rattle.model.specs.Reached.{reach, issuedIn}
-use Rattle.model.specs.Deciding.{countingIn, read}
+use Rattle.model.specs.Deciding.{countedIn}
 use Rattle.model.specs.Forms.{isKind}
 use Rattle.model.specs.Theorems.{ReadAs, DerivableIn, GroundFact, GroundSaid}
-use Rattle.model.proofs.ListFacts.{and-of, all-of, keep-of, each-in, eqb-in, or-left, member-of, member-in}
+use Rattle.model.proofs.ListFacts.{and-of, all-of, each-in, eqb-in, or-left, member-of, member-in}
 use Rattle.model.proofs.ReadFacts.{Fine, policy-fine}
+use Rattle.model.proofs.WithdrawalFacts.{counted-in}
 use Rattle.model.proofs.ProperRequests.{policy-kinded}
 use Rattle.model.proofs.BoundVariables.{kindedAt, facts-kinded, instances}
 use Rattle.model.proofs.ByteFacts.{below-length}
@@ -63,7 +62,10 @@ about-ground cs vs b c (canSay s d f) e g = (e, g .1)
 
 -- ---- the rules
 
-module _ (policy : List ℕ) (P : Policy) (q : Request) (r : ReadAs policy P) where
+module _ (policy : List ℕ) (R : Read) (r : ReadAs policy (R .policy)) where
+  abbrev P : Policy
+  P = R .policy
+
   abbrev cs : List Constant
   cs = P .constants
 
@@ -71,13 +73,10 @@ module _ (policy : List ℕ) (P : Policy) (q : Request) (r : ReadAs policy P) wh
   vs = P .verbs
 
   abbrev W : World
-  W = worldOf P q
+  W = worldIn R
 
   fine : (a : Assertion) → List·Memᴰ a (P .assertions) → Fine cs vs a
   fine = policy-fine policy P r
-
-  counted : (a : Assertion) → List·Memᴰ a (countingIn P q) → List·Memᴰ a (P .assertions)
-  counted a m = keep-of (issuedIn (reach W (P .assertions) (issuers (q .node) W))) (P .assertions) m .0
 
   -- an instance's head
   head-ground : (a : Assertion) → List·Memᴰ a (P .assertions) → (θ κ : List ℕ) → Fits cs (demandsOf vs a) κ → Binds cs κ (inPlaces (demandsOf vs a)) θ
@@ -94,10 +93,10 @@ module _ (policy : List ℕ) (P : Policy) (q : Request) (r : ReadAs policy P) wh
           (all-of (inPlace cs κ) (and-of (all (inPlace cs κ) (D .places)) (all (comparable cs κ) (D .tests)) (f .2) .0) i)
           (λ v l t. b .1 v l .0 (member-in (each-in (λ (x : ℕ × Expr). varsOf (x .1)) i (member-of v (varsOf (p .1)) t))))
 
-  rule-ground : {ps : List Said} {x : Said} → Rule W (countingIn P q) ps x → ((y : Said) → List·Memᴰ y ps → GroundSaid W y) → GroundSaid W x
+  rule-ground : {ps : List Said} {x : Said} → Rule W (countedIn R) ps x → ((y : Said) → List·Memᴰ y ps → GroundSaid W y) → GroundSaid W x
   rule-ground (cond {a} {d} {θ} m n o t) h =
-      let i = counted a m in
-      let w = instances policy P r (q .today) a i θ .0 o in
+      let i = counted-in R a m in
+      let w = instances policy P r (R .request .today) a i θ .0 o in
       let e = and-of (eqb (kindAt cs (a .issuer)) principal) (fitting cs (demandsOf vs a)) (fine a i .fit) .0 in
       (eqb→eq (kindAt cs (a .issuer)) principal e, n, head-ground a i θ (w .0) (w .1) (w .2))
   rule-ground (canSays {a} {b} {k} {f}) h =
@@ -108,5 +107,5 @@ module _ (policy : List ℕ) (P : Policy) (q : Request) (r : ReadAs policy P) wh
       let k = h (said a d (about c f)) (List·Memᴰ·tail (List·Memᴰ·head refl)) in
       (g .0, g .1, about-ground cs vs b c f (g .2 .0) (k .2))
 
-  pub grounded : (x : Said) → DerivableIn (read P q) x → GroundSaid W x
+  pub grounded : (x : Said) → DerivableIn R x → GroundSaid W x
   grounded x (by r h) = rule-ground r (λ y e. grounded y (h y e))

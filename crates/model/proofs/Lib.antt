@@ -14,6 +14,7 @@ pub mod OutcomeFacts
 pub mod Outside
 pub mod Inside
 pub mod Growth
+pub mod WithdrawalFacts
 pub mod KindFacts
 pub mod ReadFacts
 pub mod DecisionFacts
@@ -25,6 +26,7 @@ pub mod ItemReader
 pub mod PolicyReader
 pub mod CheckedNodes
 pub mod RequestReader
+pub mod EntryReader
 pub mod SafetyRules
 pub mod ProperRequests
 pub mod BoundVariables

@@ -90,8 +90,8 @@ module _ {A : Type 0} where
     h,
   )
 
-module _ (s : List ℕ) where
-  ended-is : (x : Accepted) (at p : ℕ) → andThen (choose (eqb p (length s)) (got tt p) (refused 3 p)) (λ (y : Unit {0}) q. got x q) ≡ ended s x p
+module _ {A : Type 0} (s : List ℕ) where
+  pub ended-is : (x : A) (at p : ℕ) → andThen (choose (eqb p (length s)) (got tt p) (refused 3 p)) (λ (y : Unit {0}) q. got x q) ≡ ended s x p
   unfolding ended andThen choose
   ended-is x at p = go (eqb p (length s))
     where
@@ -99,6 +99,7 @@ module _ (s : List ℕ) where
       go true = refl
       go false = refl
 
+module _ (s : List ℕ) where
   -- the reader in one walk is the computed one
   pub policy-is : readPolicy s ≡ computedPolicy s
   unfolding readPolicy computedPolicy constantsFrom verbsFrom assertionsFrom
@@ -107,4 +108,4 @@ module _ (s : List ℕ) where
       (λ cs p. then-same _ _ (list-is s (verbItem s) (policies.verbItem s) (λ earlier p. verbItem-is s p earlier) 0 maxVerbs 0 p)
       (λ vs p. then-same _ _ (list-is s (assertionItem s (contents cs) (contents vs)) (policies.assertionItem (contents cs) (contents vs) s)
       (λ earlier p. assertionItem-is s (contents cs) (contents vs) p earlier) 0 maxAssertions 0 p)
-      (λ 𝒜 p. ended-is (record { version = byteAt s 0; constants = cs; verbs = vs; assertions = 𝒜 }) 0 p))))
+      (λ 𝒜 p. ended-is s (record { version = byteAt s 0; constants = cs; verbs = vs; assertions = 𝒜 }) 0 p))))

@@ -8,11 +8,15 @@ use native.Mathlib.Decide.{decLt}
 use lib.ListN.{length, getD, List·getD-eq-default}
 use Rattle.model.specs.Limits.{unbound, answerBytes}
 use Rattle.model.specs.Lists.{all, each}
-use Rattle.model.specs.Syntax.{today, Assertion, Constant, Policy, Request, Node, World, Read, worldIn}
+use Rattle.model.specs.Syntax.{today, Assertion, Withdrawal, Constant, Policy, Request, Node, World, worldOf, Read, worldIn}
 use Rattle.model.specs.Kinds.{noConstant, demandsIn, inPlace, comparable}
 use Rattle.model.specs.Closure.{Derives, First}
 use Rattle.model.specs.Rules.{Rule}
 use Rattle.model.specs.Requests.{issuers, kindsIn, freeKinds, bindingsIn}
+use Rattle.model.specs.Withdrawals.{stays, left, leftIn}
+use Rattle.model.specs.Bytes.{u16At, u32At, choose, got, andThen}
+use Rattle.model.specs.Reader.{byte, u16, items, list}
+use Rattle.model.specs.Layout.{slice, readWithdrawals}
 use Rattle.model.specs.Records.{Entry, keyOf, answersBytes, Arity}
 use Rattle.model.specs.Meant.{Outcome, tooManyFacts, tooManyAnswers, decided, MoreThan, AtMost, Enumerates, Derivable, FirstIn, Satisfies}
 use Rattle.model.specs.Meant.{itself, Meant, fullTable, fullAnswers, allListed}
@@ -21,7 +25,8 @@ use Rattle.model.specs.Reached.{issuedIn, reach, counting}
 use Rattle.model.specs.Deciding.{outcome, decide, read, countedIn}
 use Rattle.model.specs.Decision.{Slices, Lent, allow, deny, refusal, Report, capacity, room, atFront, word, reported, decision}
 use Rattle.model.specs.Theorems as Q
-use Rattle.model.specs.Theorems.{Inputs, ReadAs, Longer, withPolicy, IsDecision, ListedIn, answerIn, MeantBy}
+use Rattle.model.specs.Theorems.{Inputs, ReadAs, AskedAs, Adds, Longer, withPolicy, withWithdrawals, withoutEntries, IsDecision}
+use Rattle.model.specs.Theorems.{ListedIn, answerIn, MeantBy}
 use Rattle.model.proofs.ListFacts.{and-of, keep-of, keep-in, member-of, member-in}
 use Rattle.model.proofs.ClosureFacts.{derives↔within, derives-more}
 use Rattle.model.proofs.RoundFacts as S
@@ -33,6 +38,7 @@ use Rattle.model.proofs.OutcomeFacts.{clash, meant-unique, meant, same-
 use Rattle.model.proofs.Outside.{counting-same}
 use Rattle.model.proofs.Inside.{inside}
 use Rattle.model.proofs.Growth.{holds-more, rule-grows}
+use Rattle.model.proofs.WithdrawalFacts.{left-in, counted-in, left-all, adds-kept, serials-aside}
 use Rattle.model.proofs.ReadFacts.{accepted-count, subject-placed, policy-fine}
 use Rattle.model.proofs.KindFacts.{fitting↔, one-kind}
 use Rattle.model.proofs.DecisionFacts.{slice-by-slice, of-slices, reports, rounds-facts, answer-at, getD-in, in-getD}
@@ -66,9 +72,7 @@ sliceBySlice s R = (slice-by-slice s R, of-slices s R)
 module _ (s : Slices) (R : Read) (h : Inputs s R) where
   counting-arity : (a : Assertion) → List·Memᴰ a (countedIn R) → Arity (R .policy .verbs) (a .head)
   counting-arity a m =
-      let 𝒜 = R .policy .assertions in
-      let W = worldIn R in
-      policy-fine (s .policy) (R .policy) (slice-by-slice s R h .readAs) a (keep-of (issuedIn (reach W 𝒜 (issuers (R .request .node) W))) 𝒜 m .0) .arity
+      policy-fine (s .policy) (R .policy) (slice-by-slice s R h .readAs) a (counted-in R a m) .arity
 
   meant-by : (c r : ℕ) → MeantBy R c r (decide R c r)
   meant-by c r = meant (worldIn R) (countedIn R) (R .request .node) c r counting-arity
@@ -171,32 +175,57 @@ computedReach W 𝒜 asked = (
 
 -- ---- added assertions
 
--- what is read with the longer policy in the shorter's place: the world and the request are the shorter's
+-- what is read with another policy in the first one's place: where constants and verbs are the same, so are the world, the request and the withdrawals
+abbrev another : Read → Policy → Read
+another R L = read L (R .request) (R .withdrawals)
+
+module _ (R : Read) (L : Policy) (cs : L .constants ≡ R .policy .constants) (vs : L .verbs ≡ R .policy .verbs) where
+  with-policy : (l : Lent) (other : List ℕ) → Inputs (l .slices) R → ReadAs other L → Inputs (withPolicy other l .slices) (another R L)
+  with-policy l other h a =
+      let k = slice-by-slice (l .slices) R h in
+      of-slices (withPolicy other l .slices) (another R L) (record {
+        readAs = a;
+        askedAs = (k .askedAs .0, rw (cs, vs) (k .askedAs .1));
+        withdrawnAs = (k .withdrawnAs .0, rw cs (k .withdrawnAs .1));
+      })
+
+  same-world : worldIn (another R L) ≡ worldIn R
+  same-world = λ i. record { constants = cs i; verbs = vs i; today = R .request .today }
+
+-- reports tell nothing of the slices
+same-buffers : (o : Outcome) (l : Lent) (s : Slices)
+    → reported o (record { slices = s; factBuffer = l .factBuffer; answerBuffer = l .answerBuffer }) ≡ reported o l
+same-buffers tooManyFacts l s = refl
+same-buffers (tooManyAnswers F) l s = refl
+same-buffers (decided F A) l s = refl
+
 module _ {X : Assertion → Type 0} (R : Read) (L : Policy) (x : Longer X (R .policy) L) where
-  abbrev R′ : Read
-  R′ = read L (R .request)
+  longer-inputs : (l : Lent) (longer : List ℕ) → Inputs (l .slices) R → ReadAs longer L → Inputs (withPolicy longer l .slices) (another R L)
+  longer-inputs l longer h a = with-policy R L (x .constants) (x .verbs) l longer h a
 
-  longer-inputs : (l : Lent) (longer : List ℕ) → Inputs (l .slices) R → ReadAs longer L → Inputs (withPolicy longer l .slices) R′
-  longer-inputs l longer h a =
-      let k = slice-by-slice (l .slices) R h .askedAs in
-      of-slices (withPolicy longer l .slices) R′ (record { readAs = a; askedAs = (k .0, rw (x .constants, x .verbs) (k .1)) })
+  longer-world : worldIn (another R L) ≡ worldIn R
+  longer-world = same-world R L (x .constants) (x .verbs)
 
-  longer-world : worldIn R′ ≡ worldIn R
-  longer-world = λ i. record { constants = x .constants i; verbs = x .verbs i; today = R .request .today }
+  -- what is left of the longer policy's list, and which of it count
+  abbrev longerLeft : List Assertion
+  longerLeft = left (worldIn R) (R .withdrawals) (L .assertions)
 
-  longer-counts : countedIn R′ ≡ counting (worldIn R) (L .assertions) (issuers (R .request .node) (worldIn R))
-  longer-counts = ap (λ (W : World). counting W (L .assertions) (issuers (R .request .node) W)) longer-world
+  left-adds : Adds X (leftIn R) longerLeft
+  left-adds = adds-kept (stays (worldIn R) (R .withdrawals)) (x .assertions)
+
+  longer-counts : countedIn (another R L) ≡ counting (worldIn R) longerLeft (issuers (R .request .node) (worldIn R))
+  longer-counts = ap (λ (W : World). counting W (left W (R .withdrawals) (L .assertions)) (issuers (R .request .node) W)) longer-world
 
 pub outsiders : Q.Outsiders
 outsiders l longer R L h a x =
-    reports (withPolicy longer l) (read L (R .request)) (longer-inputs R L x l longer h a)
-    ∙ (same-buffers (decide (read L (R .request)) c r) ∙ (ap (λ (o : Outcome). reported o l) same ∙ sym (reports l R h)))
+    reports (withPolicy longer l) (another R L) (longer-inputs R L x l longer h a)
+    ∙ (same-buffers (decide (another R L) c r) l _ ∙ (ap (λ (o : Outcome). reported o l) same ∙ sym (reports l R h)))
   where
     W : World
     W = worldIn R
 
-    counts : countedIn (read L (R .request)) ≡ countedIn R
-    counts = longer-counts R L x ∙ counting-same W (issuers (R .request .node) W) (R .policy .assertions) (L .assertions) (x .assertions)
+    counts : countedIn (another R L) ≡ countedIn R
+    counts = longer-counts R L x ∙ counting-same W (issuers (R .request .node) W) (leftIn R) (longerLeft R L x) (left-adds R L x)
 
     c : ℕ
     c = capacity (l .factBuffer)
@@ -204,19 +233,14 @@ outsiders l longer R L h a x =
     r : ℕ
     r = room (l .answerBuffer)
 
-    same : decide (read L (R .request)) c r ≡ decide R c r
+    same : decide (another R L) c r ≡ decide R c r
     same = λ i. outcome (longer-world R L x i) (counts i) (R .request .node) c r
-
-    same-buffers : (o : Outcome) → reported o (withPolicy longer l) ≡ reported o l
-    same-buffers tooManyFacts = refl
-    same-buffers (tooManyAnswers F) = refl
-    same-buffers (decided F A) = refl
 
 pub insiders : Q.Insiders
 insiders s R h n x r =
     let P = R .policy in
-    inside (worldIn R) (issuers (R .request .node) (worldIn R)) (P .assertions)
-    (λ a m. subject-placed (P .constants) (P .verbs) a (policy-fine (s .policy) P (slice-by-slice s R h .readAs) a m .fit)) n x r
+    inside (worldIn R) (issuers (R .request .node) (worldIn R)) (leftIn R)
+    (λ a m. subject-placed (P .constants) (P .verbs) a (policy-fine (s .policy) P (slice-by-slice s R h .readAs) a (left-in R a m) .fit)) n x r
 
 -- the answers of a decision are those that its buffer lists
 binding-length : (W : World) (n : Node) (θ : List ℕ) → List·Memᴰ θ (bindingsIn W n) → length θ ≡ answerBytes
@@ -241,7 +265,8 @@ growing l longer R L h a x p d d′ θ k =
     let W = worldIn R in
     let n = R .request .node in
     let asked = issuers n W in
-    let R′ = read L (R .request) in
+    let R′ = another R L in
+    let ℬ = counting W (longerLeft R L x) asked in
     let i = longer-inputs R L x l longer h a in
     let c = capacity (l .factBuffer) in
     let r = room (l .answerBuffer) in
@@ -251,10 +276,10 @@ growing l longer R L h a x p d d′ θ k =
     (subst (λ (ρ : Report). IsDecision (ρ .verdict)) e′ d′) θ in
     let then = listed↔ W (countedIn R) n c r l (meant-by (l .slices) R h c r) (subst (λ (ρ : Report). IsDecision (ρ .verdict)) e d) θ in
     let s = then .0 (subst (λ (ρ : Report). ListedIn ρ θ) e k) in
-    let s′ : Satisfies W (counting W (L .assertions) asked) n θ = (
+    let s′ : Satisfies W ℬ n θ = (
       s .0,
-      holds-more W (kindsIn W n) (Derives (Rule W (countedIn R))) (Derives (Rule W (counting W (L .assertions) asked)))
-          (λ y z. derives-more (rule-grows W asked (x .assertions)) z) n θ p (s .1),
+      holds-more W (kindsIn W n) (Derives (Rule W (countedIn R))) (Derives (Rule W ℬ))
+          (λ y z. derives-more (rule-grows W asked (left-adds R L x)) z) n θ p (s .1),
     ) in
     subst (λ (ρ : Report). ListedIn ρ θ) (sym e′)
     (now .1 (subst₂ (λ (W : World) (𝒜 : List Assertion). Satisfies W 𝒜 n θ) (sym (longer-world R L x)) (sym (longer-counts R L x)) s′))
@@ -304,9 +329,97 @@ freeAnswers s R h θ a v t =
 -- ---- ground
 
 pub ground : Q.Ground
-ground s R h x d = grounded (s .policy) (R .policy) (R .request) (slice-by-slice s R h .readAs) x d
+ground s R h x d = grounded (s .policy) R (slice-by-slice s R h .readAs) x d
 
 -- ---- safety
 
 pub safelyAsked : Q.SafelyAsked
 safelyAsked policy request P h n e r = safely-asked policy request P h n e r
+
+-- ---- withdrawals
+
+-- the slice without entries is accepted by whatever constants
+no-entries : (cs : List Constant) → readWithdrawals cs withoutEntries ≡ got [] 7
+unfolding readWithdrawals slice list items u16 byte u32At u16At choose andThen
+no-entries cs = refl
+
+pub nothingWithdrawn : Q.NothingWithdrawn
+nothingWithdrawn s P q e a k = (
+  of-slices s (read P q []) (record { readAs = a; askedAs = k; withdrawnAs = (7, ap (readWithdrawals (P .constants)) e ∙ no-entries (P .constants)) }),
+  left-all (worldOf P q) (P .assertions),
+)
+
+pub withdrawnIsAbsent : Q.WithdrawnIsAbsent
+withdrawnIsAbsent l other R L h a e =
+    reports l′ R′ inputs
+    ∙ (same-buffers (decide R′ c r) l _ ∙ (ap (λ (o : Outcome). reported o l) same ∙ sym (reports l R h)))
+  where
+    l′ : Lent
+    l′ = withWithdrawals withoutEntries (withPolicy other l)
+
+    R′ : Read
+    R′ = read L (R .request) []
+
+    c : ℕ
+    c = capacity (l .factBuffer)
+
+    r : ℕ
+    r = room (l .answerBuffer)
+
+    cs : L .constants ≡ R .policy .constants
+    cs = ap (λ (P : Policy). P .constants) e
+
+    vs : L .verbs ≡ R .policy .verbs
+    vs = ap (λ (P : Policy). P .verbs) e
+
+    asked : AskedAs L (l .slices .request) (R .request)
+    asked = slice-by-slice (withPolicy other l .slices) (another R L) (with-policy R L cs vs l other h a) .askedAs
+
+    inputs : Inputs (l′ .slices) R′
+    inputs = nothingWithdrawn (l′ .slices) L (R .request) refl a asked .0
+
+    world : worldIn R′ ≡ worldIn R
+    world = same-world R L cs vs
+
+    lefts : leftIn R′ ≡ leftIn R
+    lefts = left-all (worldIn R′) (L .assertions) ∙ ap (λ (P : Policy). P .assertions) e
+
+    same : decide R′ c r ≡ decide R c r
+    same = λ i. outcome (world i) (counting (world i) (lefts i) (issuers (R .request .node) (world i))) (R .request .node) c r
+
+pub serialsAside : Q.SerialsAside
+serialsAside l other R L h a none e =
+    reports (withPolicy other l) (another R L) (with-policy R L cs vs l other h a)
+    ∙ (same-buffers (decide (another R L) c r) l _ ∙ (ap (λ (o : Outcome). reported o l) same ∙ sym (reports l R h)))
+  where
+    W : World
+    W = worldIn R
+
+    n : Node
+    n = R .request .node
+
+    c : ℕ
+    c = capacity (l .factBuffer)
+
+    r : ℕ
+    r = room (l .answerBuffer)
+
+    cs : L .constants ≡ R .policy .constants
+    cs = ap (λ (P : Policy). P .constants) e
+
+    vs : L .verbs ≡ R .policy .verbs
+    vs = ap (λ (P : Policy). P .verbs) e
+
+    -- by another list of assertions, under the same constants and verbs, without entries
+    by : World → List Withdrawal → List Assertion → Outcome
+    by U ws 𝒜 = outcome U (counting U (left U ws 𝒜) (issuers n U)) n c r
+
+    all-left : (𝒜 : List Assertion) → by W [] 𝒜 ≡ outcome W (counting W 𝒜 (issuers n W)) n c r
+    all-left 𝒜 = ap (λ (l : List Assertion). outcome W (counting W l (issuers n W)) n c r) (left-all W 𝒜)
+
+    same : decide (another R L) c r ≡ decide R c r
+    same =
+        (λ i. by (same-world R L cs vs i) (none i) (L .assertions))
+        ∙ (all-left (L .assertions)
+        ∙ (serials-aside W (L .assertions) (R .policy .assertions) (issuers n W) n c r (ap (λ (P : Policy). P .assertions) e)
+        ∙ (sym (all-left (R .policy .assertions)) ∙ (λ i. by W (sym none i) (R .policy .assertions)))))

@@ -1,4 +1,4 @@
--- Worked cases on bytes: document 01's belt cases, its four wrong turnings, and some of the ways in which it is read.
+-- Worked cases on bytes: document 01's belt cases, its four wrong turnings, some of the ways in which it is read, and request 02.
 use mathlib.Core.Path.{_≡_}
 use mathlib.Core.List.{List, [], _∷_, _++_, map}
 use Prim.Native.Nat.{ℕ, suc, _/_, _%_}
@@ -8,7 +8,7 @@ use Rattle.model.specs.Lists.{each}
 use Rattle.model.specs.Syntax.{Policy, Read}
 use Rattle.model.specs.Decision as given
 use Rattle.model.specs.Decision.{slices, Verdict, allow, deny, refusal, Report, report, decision}
-use Rattle.model.specs.Theorems.{ReadAs, Inputs, Longer, IssuedOutside, Positive, IsDecision}
+use Rattle.model.specs.Theorems.{ReadAs, Inputs, Longer, IssuedOutside, Positive, IsDecision, withoutEntries}
 
 -- ---- a row: a call, and what it must report
 
@@ -22,8 +22,12 @@ Agree rows = map (λ (r : Row). r .0) rows ≡ map (λ (r : Row). r .1) rows
 abbrev pub lent : ℕ → List ℕ
 lent n = replicate n 165
 
+abbrev pub callWith : List ℕ → List ℕ → List ℕ → ℕ → ℕ → Report
+callWith withdrawals policy request facts answers = decision (given.lent policy request withdrawals (lent facts) (lent answers))
+
+-- document 01's cases: "document 01's program lends such slices without entries"
 abbrev pub call : List ℕ → List ℕ → ℕ → ℕ → Report
-call policy request facts answers = decision (given.lent policy request (lent facts) (lent answers))
+call = callWith withoutEntries
 
 abbrev pub refuses : ℕ → ℕ → ℕ → ℕ → ℕ → Report
 refuses n side place facts answers = report (refusal n side place) 0 0 0 (lent facts) (lent answers)
@@ -59,13 +63,23 @@ isFitter v = 0 ∷ v ++ 1 ∷ []
 abbrev mayOrder : List ℕ → List ℕ
 mayOrder v = 0 ∷ v ++ 2 ∷ two 3
 
-abbrev statement : List ℕ → List ℕ → List (List ℕ) → List ℕ
-statement issuer head body =
-    let bytes = 0 ∷ 0 ∷ 0 ∷ 0 ∷ issuer ++ head ++ (length body ∷ each body (λ f. f)) ++ 0 ∷ [] in
+abbrev numbered : ℕ → List ℕ → List ℕ → List (List ℕ) → List ℕ
+numbered serial issuer head body =
+    let bytes = 0 ∷ 0 ∷ two serial ++ issuer ++ head ++ (length body ∷ each body (λ f. f)) ++ 0 ∷ [] in
     two (length bytes) ++ bytes
+
+abbrev statement : List ℕ → List ℕ → List (List ℕ) → List ℕ
+statement = numbered 0
 
 abbrev says : List ℕ → List ℕ → List ℕ
 says issuer fact = 1 ∷ issuer ++ fact
+
+-- an entry of the withdrawals, and the slice
+abbrev entry : List ℕ → ℕ → List (List ℕ) → List ℕ
+entry issuer serial tests = issuer ++ 0 ∷ 0 ∷ two serial ++ length tests ∷ each tests (λ t. t)
+
+abbrev withdrawals : List (List ℕ) → List ℕ
+withdrawals entries = file (list entries)
 
 abbrev request : ℕ → List ℕ → List ℕ
 request today node = file (0 ∷ 0 ∷ two today ++ node)
@@ -308,6 +322,66 @@ readingRows =
 abbrev pub Readings : Type 0
 Readings = Agree readingRows
 
+-- ---- request 02: the belt policy with serials 7, 8 and 7
+
+abbrev pub serialP : List ℕ
+serialP = policy (numbered 7 works (canSay north 0 (isFitter var₀)) [] ∷ numbered 8 works (mayOrder var₀) (isFitter var₀ ∷ [])
+    ∷ numbered 7 north (isFitter otto) [] ∷ [])
+
+-- a constraint that holds, today being at most today, and one that does not
+abbrev fromToday : List ℕ
+fromToday = 3 ∷ two 0x4000 ++ two 0x4000
+
+abbrev worksIsNorth : List ℕ
+worksIsNorth = 1 ∷ works ++ north
+
+abbrev withdrawalCall : List (List ℕ) → Report
+withdrawalCall entries = callWith (withdrawals entries) serialP Q 160 8
+
+abbrev pub withdrawalRows : List Row
+withdrawalRows =
+    -- North's statement withdrawn: "P without (iii): deny, 6 facts, 1 round."
+    (withdrawalCall (entry north 7 [] ∷ []), report deny 6 1 0 (sixFacts ++ zeros 64) (zeros 8))
+    ∷ (withdrawalCall (entry north 7 (fromToday ∷ []) ∷ []), report deny 6 1 0 (sixFacts ++ zeros 64) (zeros 8))
+    -- no entries; one for a serial that North has not; one whose constraints do not hold
+    ∷ (withdrawalCall [], report allow 10 3 1 tenFacts closed)
+    ∷ (withdrawalCall (entry north 8 [] ∷ []), report allow 10 3 1 tenFacts closed)
+    ∷ (withdrawalCall (entry north 7 (fromToday ∷ worksIsNorth ∷ []) ∷ []), report allow 10 3 1 tenFacts closed)
+    -- one whose constraints hold suffices
+    ∷ (
+      withdrawalCall (entry north 7 (worksIsNorth ∷ []) ∷ entry north 7 (fromToday ∷ []) ∷ []),
+      report deny 6 1 0 (sixFacts ++ zeros 64) (zeros 8),
+    )
+    -- what Works says of North withdrawn: North is out of reach, and no fact is derived
+    ∷ (withdrawalCall (entry works 7 [] ∷ []), report deny 0 0 0 (zeros 160) (zeros 8))
+    -- version absent, length wrong, a count of one and no entry, bytes left over
+    ∷ (callWith [] serialP Q 160 8, refuses 1 3 0 160 8)
+    ∷ (callWith (1 ∷ 0 ∷ 0 ∷ 0 ∷ 3 ∷ 0 ∷ 0 ∷ []) serialP Q 160 8, refuses 2 3 1 160 8)
+    ∷ (callWith (1 ∷ 0 ∷ 0 ∷ 0 ∷ 2 ∷ 1 ∷ 1 ∷ []) serialP Q 160 8, refuses 3 3 5 160 8)
+    ∷ (callWith (1 ∷ 0 ∷ 0 ∷ 0 ∷ 2 ∷ 0 ∷ 1 ∷ []) serialP Q 160 8, refuses 3 3 7 160 8)
+    ∷ (callWith (1 ∷ 0 ∷ 0 ∷ 0 ∷ 3 ∷ 0 ∷ 0 ∷ 0 ∷ []) serialP Q 160 8, refuses 3 3 7 160 8)
+    -- five constraints; an operator with no meaning, though the issuer is a thing
+    ∷ (
+      withdrawalCall (entry north 7 [] ∷ entry north 7 (fromToday ∷ fromToday ∷ fromToday ∷ fromToday ∷ fromToday ∷ []) ∷ []),
+      refuses 3 3 14 160 8,
+    )
+    ∷ (withdrawalCall (entry (two 3) 7 ((6 ∷ works ++ north) ∷ []) ∷ []), refuses 3 3 7 160 8)
+    -- a thing, today and a number past the constants as issuer
+    ∷ (withdrawalCall (entry (two 3) 7 [] ∷ []), refuses 5 3 7 160 8)
+    ∷ (withdrawalCall (entry (two 0x4000) 7 [] ∷ []), refuses 5 3 7 160 8)
+    ∷ (withdrawalCall (entry (two 4) 7 [] ∷ []), refuses 5 3 7 160 8)
+    -- a variable as issuer: 10, and 5 where it is compared with a day
+    ∷ (withdrawalCall (entry var₀ 7 ((1 ∷ var₀ ++ var₀) ∷ []) ∷ []), refuses 10 3 7 160 8)
+    ∷ (withdrawalCall (entry var₀ 7 ((3 ∷ var₀ ++ two 0x4000) ∷ []) ∷ []), refuses 5 3 7 160 8)
+    -- a variable in a constraint, before a fault of the next entry
+    ∷ (withdrawalCall (entry north 7 ((1 ∷ var₀ ++ var₀) ∷ []) ∷ entry (two 3) 7 [] ∷ []), refuses 10 3 7 160 8)
+    -- after the request: its 7 comes first
+    ∷ (callWith [] serialP (request 0 (5 ∷ says works (isFitter var₀))) 160 8, refuses 7 2 9 160 8)
+    ∷ []
+
+abbrev pub Withdrawing : Type 0
+Withdrawing = Agree withdrawalRows
+
 -- ---- demand 3 on the belt: "P plus 'Otto says Otto may-order encoder'" is a longer policy whose added issuer is outside the reach
 
 abbrev added : List ℕ
@@ -320,7 +394,7 @@ longerP = policy (i ∷ ii ∷ iii ∷ added ∷ [])
 pub record BeltPair : Type 0 where
   pub shorter : Read
   pub longer : Policy
-  pub inputs : Inputs (slices P Q) shorter
+  pub inputs : Inputs (slices P Q withoutEntries) shorter
   pub longerRead : ReadAs longerP longer
   pub outside : Longer (IssuedOutside shorter) (shorter .policy) longer
   pub positive : Positive (shorter .request .node)

@@ -6,7 +6,7 @@ use lib.ListN.{getD}
 use lib.Dec.{eqb, ltb}
 use Rattle.model.specs.Limits.{principal, thing, day, quantity}
 use Rattle.model.specs.Lists.{any, all, each, member, product}
-use Rattle.model.specs.Syntax.{Expr, con, var, today, Fact, flat, canSay, Constraint, Assertion, Constant, Verb, varsOf, varsTest}
+use Rattle.model.specs.Syntax.{Expr, con, var, today, Fact, flat, canSay, Constraint, Assertion, Withdrawal, Constant, Verb, varsOf, varsTest}
 use Rattle.model.specs.Syntax.{Node, Nodes, says, test, allOf, anyOf, non, exists, end, more}
 
 -- where a number has no constant
@@ -46,6 +46,10 @@ places vs (canSay s d f) = (principal, s) ∷ places vs f
 
 abbrev pub demandsOf : List Verb → Assertion → Demands
 demandsOf vs a = record { places = each (a .head ∷ a .body) (places vs); tests = a .tests }
+
+-- the issuer of a withdrawal is a principal
+abbrev pub withdrawalDemands : Withdrawal → Demands
+withdrawalDemands w = record { places = (principal, w .issuer) ∷ []; tests = w .tests }
 
 abbrev pub saysDemands : List Verb → Expr → Fact Expr → Demands
 saysDemands vs e f = record { places = (principal, e) ∷ places vs f; tests = [] }

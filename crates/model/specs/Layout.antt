@@ -1,5 +1,5 @@
--- Policy bytes and request bytes, in document 01's order: what they say, or the refusal with its place ("Policy bytes", "Request bytes", "Refusals from the
--- input").
+-- The bytes of the slices, in document 01's order: what they say, or the refusal with its place ("Policy bytes", "Request bytes", "Refusals from the input";
+-- request 02).
 use Prim.Native.Nat.{ℕ, zero, suc, _-_}
 use mathlib.Core.List.{List, []}
 use mathlib.Core.Bool.{_&&_, _||_, not}
@@ -7,9 +7,9 @@ use lib.ListN.{length}
 use lib.Dec.{eqb, ltb, leb}
 use Rattle.model.specs.Limits.{principal, thing, day, quantity}
 use Rattle.model.specs.Lists.{any, all}
-use Rattle.model.specs.Syntax.{Expr, con, var, today, Fact, flat, canSay, Constraint, Assertion, Constant, Verb, Policy}
+use Rattle.model.specs.Syntax.{Expr, con, var, today, Fact, flat, canSay, Constraint, Assertion, Withdrawal, Constant, Verb, Policy, varsWithdrawal}
 use Rattle.model.specs.Syntax.{Node, Nodes, says, test, allOf, anyOf, non, exists, end, more, Request}
-use Rattle.model.specs.Kinds.{paramKinds, Demands, noDemands, joined, demandsIn, fitting, fitsAssertion}
+use Rattle.model.specs.Kinds.{paramKinds, Demands, noDemands, joined, demandsIn, withdrawalDemands, fitting, fitsAssertion}
 use Rattle.model.specs.Safety.{safeAssertion, safeRequest}
 use Rattle.model.specs.Bytes.{byteAt, u32At, choose, Reading, refused}
 use Rattle.model.specs.Values.{alike, sameValue}
@@ -124,6 +124,25 @@ module _ (s : List ℕ) where
     require 6 (safeAssertion a)
     pure a
 
+  -- ---- entries: an item without a length is its own bytes. "within an item 3, .. 5", and then 10
+
+  -- request 02: "entries of issuer, 4-byte serial, count byte and constraints"; "a constraint count is 0 to 4"
+  unfoldable pub withdrawal : Reader Withdrawal
+  withdrawal = do
+    issuer ← expr
+    serial ← u32 s
+    t ← byteIn s 0 4
+    tests ← times t constraint
+    pure (record { issuer = issuer; serial = serial; tests = tests })
+
+  -- "Refusals 1, 2, 3 and 5 apply with side 3"; "10, an entry with a variable, as issuer too, after 5 within its item"
+  unfoldable pub withdrawalItem : List Constant → List Withdrawal → Reader Withdrawal
+  withdrawalItem cs earlier = do
+    w ← withdrawal
+    require 5 (fitting cs (withdrawalDemands w))
+    require 10 (eqb (length (varsWithdrawal w)) 0)
+    pure w
+
   -- ---- nodes: "each node are items, a node's item being its own bytes without the nodes inside it". D is what the items before it ask of the kinds.
 
   module _ (cs : List Constant) (vs : List Verb) where
@@ -178,3 +197,10 @@ readRequest cs vs s = slice s 1 do
   item ending
   placed 9 (require 7 (safeRequest n))
   pure (record { today = t; node = n })
+
+-- request 02: "laid out with version, length and 2-byte count (0 to 256)"
+unfoldable pub readWithdrawals : List Constant → List ℕ → Reading (List Withdrawal)
+readWithdrawals cs s = slice s 1 do
+  ws ← list s 0 256 (withdrawalItem s cs)
+  item ending
+  pure (contents ws)

@@ -13,6 +13,7 @@ pub mod Closure
 pub mod Rules
 pub mod Reach
 pub mod Requests
+pub mod Withdrawals
 pub mod Safety
 pub mod Safe
 pub mod Records
@@ -34,6 +35,7 @@ pub mod Readings
 pub mod Forms
 pub mod Policies
 pub mod Nodes
+pub mod Entries
 -- What is proved.
 pub mod Theorems
 pub mod Years

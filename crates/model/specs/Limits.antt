@@ -51,6 +51,10 @@ maxVerbs = 64
 abbrev pub maxAssertions : ℕ
 maxAssertions = 256
 
+-- ---- request 02: "2-byte count (0 to 256)"
+abbrev pub maxWithdrawals : ℕ
+maxWithdrawals = 256
+
 -- ---- "label of 1 to 32 bytes in 0x21 to 0x7E"
 abbrev pub maxLabel : ℕ
 maxLabel = 32

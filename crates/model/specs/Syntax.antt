@@ -20,7 +20,7 @@ pub record Constraint : Type 0 where
   pub left : Expr
   pub right : Expr
 
--- "Assertions: .. serial (no effect), issuer, head fact, .. body facts, .. constraints." The issuer is a principal constant.
+-- "Assertions: .. serial, issuer, head fact, .. body facts, .. constraints." The issuer is a principal constant.
 pub record Assertion : Type 0 where
   pub serial : ℕ
   pub issuer : ℕ
@@ -45,6 +45,12 @@ pub record Policy : Type 0 where
   pub constants : List Constant
   pub verbs : List Verb
   pub assertions : List Assertion
+
+-- request 02: "entries of issuer, 4-byte serial, count byte and constraints"
+pub record Withdrawal : Type 0 where
+  pub issuer : Expr
+  pub serial : ℕ
+  pub tests : List Constraint
 
 -- "Nodes: 1 says (issuer, fact); 2 constraint; 3 all-of and 4 any-of; 5 not; 6 exists (variable, node)."
 mutual
@@ -81,6 +87,7 @@ worldOf P q = record { constants = P .constants; verbs = P .verbs; today = q .to
 pub record Read : Type 0 where
   pub policy : Policy
   pub request : Request
+  pub withdrawals : List Withdrawal
 
 abbrev pub worldIn : Read → World
 worldIn R = worldOf (R .policy) (R .request)
@@ -103,7 +110,7 @@ module _ {E : Type 0} where
   about b (flat s v ps) = flat b v ps
   about b (canSay s d f) = canSay b d f
 
--- ---- the variables of an expression, a fact, a constraint
+-- ---- the variables of an expression, a fact, a constraint, an entry
 
 abbrev pub varsOf : Expr → List ℕ
 varsOf (con c) = []
@@ -116,3 +123,6 @@ varsIn (canSay s d f) = varsOf s ++ varsIn f
 
 abbrev pub varsTest : Constraint → List ℕ
 varsTest c = varsOf (c .left) ++ varsOf (c .right)
+
+abbrev pub varsWithdrawal : Withdrawal → List ℕ
+varsWithdrawal w = varsOf (w .issuer) ++ each (w .tests) varsTest

@@ -7,7 +7,7 @@ use lib.ListN.{length, take, drop, getD}
 use lib.Dec.{T}
 use Rattle.model.specs.Limits.{principal, unbound, answerBytes}
 use Rattle.model.specs.Lists.{member}
-use Rattle.model.specs.Syntax.{Fact, flat, canSay, Assertion, Constant, Verb, Policy, Request, World, worldOf, Read, worldIn, Said, said}
+use Rattle.model.specs.Syntax.{Fact, flat, canSay, Assertion, Withdrawal, Constant, Verb, Policy, Request, World, worldOf, Read, worldIn, Said, said}
 use Rattle.model.specs.Syntax.{Node, Nodes, says, test, allOf, anyOf, non, exists, end, more}
 use Rattle.model.specs.Kinds.{Demands, noDemands, demandsOf, demandsIn, paramKinds, kindAt, meets, fitting, kinds, kindOf}
 use Rattle.model.specs.Values.{bindingsOf}
@@ -16,14 +16,15 @@ use Rattle.model.specs.Closure.{Derives, Within, First}
 use Rattle.model.specs.Rules.{Rule, depths}
 use Rattle.model.specs.Reach.{Reach}
 use Rattle.model.specs.Requests.{issuers, free, kindsIn, bindingsIn}
+use Rattle.model.specs.Withdrawals.{leftIn}
 use Rattle.model.specs.Records.{Entry, keyOf, recordOf}
 use Rattle.model.specs.Meant.{Outcome, decided, MoreThan, AtMost, Enumerates, Derivable, FirstIn, Satisfies, itself, Meant}
 use Rattle.model.specs.Rounds.{round, table}
 use Rattle.model.specs.Steps.{eqSaid, step}
 use Rattle.model.specs.Reached.{reach, counting}
-use Rattle.model.specs.Deciding.{countedIn}
+use Rattle.model.specs.Deciding.{read, countedIn}
 use Rattle.model.specs.Bytes.{got}
-use Rattle.model.specs.Layout.{Accepted, policyOf, node, readPolicy, readRequest}
+use Rattle.model.specs.Layout.{Accepted, policyOf, node, readPolicy, readRequest, readWithdrawals}
 use Rattle.model.specs.Safety.{safeRequest}
 use Rattle.model.specs.Safe.{SafeRequest}
 use Rattle.model.specs.Decision.{Slices, Lent, lent, accepted, readSlices, Verdict, allow, deny, refusal, Report, capacity, room, reported, decision}
@@ -32,6 +33,12 @@ use Rattle.model.specs.Decision.{Slices, Lent, lent, accepted, readSlice
 
 abbrev pub ReadAs : List ℕ → Policy → Type 0
 ReadAs policy P = (A : Accepted) × (e : ℕ) × (readPolicy policy ≡ got A e) × (policyOf A ≡ P)
+
+abbrev pub AskedAs : Policy → List ℕ → Request → Type 0
+AskedAs P request q = (e : ℕ) × (readRequest (P .constants) (P .verbs) request ≡ got q e)
+
+abbrev pub WithdrawnAs : Policy → List ℕ → List Withdrawal → Type 0
+WithdrawnAs P withdrawals ws = (e : ℕ) × (readWithdrawals (P .constants) withdrawals ≡ got ws e)
 
 -- the slices are accepted, and R is what was read of them
 abbrev pub Inputs : Slices → Read → Type 0
@@ -69,10 +76,11 @@ pub record Longer (Q : Assertion → Type 0) (P L : Policy) : Type 0 where
 
 -- "two calls .. on one request, with buffers alike in length and in every byte at entry": another policy, and all else as lent
 abbrev pub withPolicy : List ℕ → Lent → Lent
-withPolicy policy l = lent policy (l .slices .request) (l .factBuffer) (l .answerBuffer)
+withPolicy policy l = lent policy (l .slices .request) (l .slices .withdrawals) (l .factBuffer) (l .answerBuffer)
 
+-- the reach goes by what is left
 abbrev pub InReach : Read → ℕ → Type 0
-InReach R = Reach (worldIn R) (R .policy .assertions) (issuers (R .request .node) (worldIn R))
+InReach R = Reach (worldIn R) (leftIn R) (issuers (R .request .node) (worldIn R))
 
 abbrev pub IssuedOutside : Read → Assertion → Type 0
 IssuedOutside R a = ¬ InReach R (a .issuer)
@@ -83,7 +91,7 @@ who (said a d f) = a
 -- "Each issuer in the reach says the same, in the same rounds, when assertions from outside it count too"
 abbrev pub Insiders : Type 0
 Insiders = (s : Slices) (R : Read) → Inputs s R → (n : ℕ) (x : Said) → InReach R (who x)
-    → Within (Rule (worldIn R) (R .policy .assertions)) n x ↔ Within (Rule (worldIn R) (countedIn R)) n x
+    → Within (Rule (worldIn R) (leftIn R)) n x ↔ Within (Rule (worldIn R) (countedIn R)) n x
 
 -- no "not" at any depth
 abbrev mutual
@@ -115,7 +123,28 @@ ListedIn r θ = (i : ℕ) × (i < r .answers) × (answerIn (r .answerBuffer) i �
 abbrev pub Anyone : Assertion → Type 0
 Anyone a = Unit {0}
 
--- ---- 3. kinds and bindings
+-- ---- 3. withdrawals (request 02)
+
+-- "such slices without entries": version 1, a length of 2, a count of 0
+abbrev pub withoutEntries : List ℕ
+withoutEntries = 1 ∷ 0 ∷ 0 ∷ 0 ∷ 2 ∷ 0 ∷ 0 ∷ []
+
+-- other withdrawals, and all else as lent
+abbrev pub withWithdrawals : List ℕ → Lent → Lent
+withWithdrawals withdrawals l = lent (l .slices .policy) (l .slices .request) withdrawals (l .factBuffer) (l .answerBuffer)
+
+-- the policy with another list of assertions
+abbrev pub withAssertions : List Assertion → Policy → Policy
+withAssertions 𝒜 P = record { version = P .version; constants = P .constants; verbs = P .verbs; assertions = 𝒜 }
+
+-- the policy with every serial 0: two policies are alike but for serials if this is the same of both
+abbrev pub withoutSerial : Assertion → Assertion
+withoutSerial a = record { serial = 0; issuer = a .issuer; head = a .head; body = a .body; tests = a .tests }
+
+abbrev pub withoutSerials : Policy → Policy
+withoutSerials P = withAssertions (map withoutSerial (P .assertions)) P
+
+-- ---- 4. kinds and bindings
 
 -- "no choice of kinds for the variables fits": the computed test says whether there is one, whatever the kinds of variables that do not occur
 abbrev pub KindsFit : Type 0
@@ -152,7 +181,7 @@ FreeAnswers = (s : Slices) (R : Read) → Inputs s R → (θ : List ℕ) → Ans
     → List·Memᴰ (kindsIn (worldIn R) (R .request .node) v) kinds
     × (kindAt (R .policy .constants) (getD θ v unbound) ≡ kindsIn (worldIn R) (R .request .node) v) × (getD θ v unbound < unbound)
 
--- ---- 4. "Facts are ground": issuer, speakers and subject are principals of the policy, parameters constants of their verb's kinds; so 255 is none of them
+-- ---- 5. "Facts are ground": issuer, speakers and subject are principals of the policy, parameters constants of their verb's kinds; so 255 is none of them
 
 abbrev pub GroundFact : List Constant → List Verb → Fact ℕ → Type 0
 GroundFact cs vs (flat s v ps) = (kindAt cs s ≡ principal) × (map (kindAt cs) ps ≡ paramKinds vs v)
@@ -165,7 +194,7 @@ GroundSaid W (said a d f) = (kindAt (W .constants) a ≡ principal) × List·Mem
 abbrev pub Ground : Type 0
 Ground = (s : Slices) (R : Read) → Inputs s R → (x : Said) → DerivableIn R x → GroundSaid (worldIn R) x
 
--- ---- 5. safety
+-- ---- 6. safety
 
 -- "7 unsafe request": of a node that is read, the computed test says whether the rules of safety find it safe
 abbrev pub SafelyAsked : Type 0
@@ -174,18 +203,16 @@ SafelyAsked = (policy request : List ℕ) (P : Policy) → ReadAs policy P
 
 -- ==== For proofs from here on: what the demands say again, of calls of the engine (crate `demands`).
 
-abbrev pub AskedAs : Policy → List ℕ → Request → Type 0
-AskedAs P request q = (e : ℕ) × (readRequest (P .constants) (P .verbs) request ≡ got q e)
-
 -- slice by slice
 pub record InputsBySlice (s : Slices) (R : Read) : Type 0 where
   pub readAs : ReadAs (s .policy) (R .policy)
   pub askedAs : AskedAs (R .policy) (s .request) (R .request)
+  pub withdrawnAs : WithdrawnAs (R .policy) (s .withdrawals) (R .withdrawals)
 
 abbrev pub SliceBySlice : Type 0
 SliceBySlice = (s : Slices) (R : Read) → Inputs s R ↔ InputsBySlice s R
 
--- ---- 6. rules and rounds
+-- ---- 7. rules and rounds
 
 -- what the rules derive is what some round holds
 abbrev pub RulesAreRounds : Type 0
@@ -204,7 +231,7 @@ TableEntries = (W : World) (𝒜 : List Assertion) (c : ℕ) → length (table e
 abbrev pub RoundsAtMostFacts : Type 0
 RoundsAtMostFacts = (l : Lent) → decision l .rounds ≤ decision l .facts
 
--- ---- 7. the outcome
+-- ---- 8. the outcome
 
 abbrev pub MeantBy : Read → ℕ → ℕ → Outcome → Type 0
 MeantBy R = Meant (worldIn R) (countedIn R) (R .request .node)
@@ -240,7 +267,7 @@ Allows = (l : Lent) (R : Read) → Inputs (l .slices) R
     → ((decision l .verdict ≡ allow) ↔ ((θ : List ℕ) × AnswerIn R θ))
     × ((decision l .verdict ≡ deny) ↔ (¬ ((θ : List ℕ) × AnswerIn R θ)))
 
--- ---- 8. the reach, and added assertions
+-- ---- 9. the reach, and added assertions
 
 -- the computed reach is the least set, and the assertions that count are those issued in it
 abbrev pub ComputedReach : Type 0
@@ -259,3 +286,20 @@ Growing = (l : Lent) (longer : List ℕ) (R : Read) (L : Policy) → Inputs (l .
     → Longer Anyone (R .policy) L → Positive (R .request .node)
     → IsDecision (decision l .verdict) → IsDecision (decision (withPolicy longer l) .verdict)
     → (θ : List ℕ) → ListedIn (decision l) θ → ListedIn (decision (withPolicy longer l)) θ
+
+-- ---- 10. withdrawals
+
+-- with withdrawals the report is that of the same call without entries, on a policy whose list is what is left
+abbrev pub WithdrawnIsAbsent : Type 0
+WithdrawnIsAbsent = (l : Lent) (other : List ℕ) (R : Read) (L : Policy) → Inputs (l .slices) R → ReadAs other L
+    → L ≡ withAssertions (leftIn R) (R .policy) → decision (withWithdrawals withoutEntries (withPolicy other l)) ≡ decision l
+
+-- without entries nothing is withdrawn
+abbrev pub NothingWithdrawn : Type 0
+NothingWithdrawn = (s : Slices) (P : Policy) (q : Request) → s .withdrawals ≡ withoutEntries → ReadAs (s .policy) P → AskedAs P (s .request) q
+    → Inputs s (read P q []) × (leftIn (read P q []) ≡ P .assertions)
+
+-- without withdrawals "serial (no effect)": policies alike but for serials give the same report
+abbrev pub SerialsAside : Type 0
+SerialsAside = (l : Lent) (other : List ℕ) (R : Read) (L : Policy) → Inputs (l .slices) R → ReadAs other L → R .withdrawals ≡ []
+    → withoutSerials L ≡ withoutSerials (R .policy) → decision (withPolicy other l) ≡ decision l

@@ -1,5 +1,5 @@
 //! The engine through its C entry points, with guard bytes around every buffer that it is lent.
-use evaluator::{Report, Verdict};
+use evaluator::{Report, Slices, Verdict};
 
 const GUARD: usize = 64;
 const MARK: u8 = 0x5A;
@@ -27,13 +27,18 @@ impl Guarded {
     }
 }
 
-/// The engine's decision, and whether all that it should leave as it is was left so: the guards and both inputs.
-pub fn decision(policy: &[u8], request: &[u8], facts: &[u8], answers: &[u8]) -> (Report, bool) {
-    let p = Guarded::new(policy);
-    let q = Guarded::new(request);
+/// The slices as the wrapper takes them.
+pub fn slices<'a>(s: &Slices<'a>) -> secpal::Slices<'a> {
+    secpal::Slices { policy: s.policy, request: s.request, withdrawals: s.withdrawals }
+}
+
+/// The engine's decision, and whether all that it should leave as it is was left so: the guards and the slices.
+pub fn decision(s: &Slices, facts: &[u8], answers: &[u8]) -> (Report, bool) {
+    let read = [s.policy, s.request, s.withdrawals].map(Guarded::new);
+    let [policy, request, withdrawals] = read.each_ref().map(Guarded::inside);
     let mut f = Guarded::new(facts);
     let mut a = Guarded::new(answers);
-    let r = secpal::decide(p.inside(), q.inside(), f.lent(), a.lent());
+    let r = secpal::decide(&slices(&Slices { policy, request, withdrawals }), f.lent(), a.lent());
     let verdict = match r.verdict {
         secpal::Verdict::Allow => Verdict::Allow,
         secpal::Verdict::Deny => Verdict::Deny,
@@ -47,7 +52,8 @@ pub fn decision(policy: &[u8], request: &[u8], facts: &[u8], answers: &[u8]) -> 
         fact_buffer: f.inside().to_vec(),
         answer_buffer: a.inside().to_vec(),
     };
-    let left = [&p, &q, &f, &a].iter().all(|b| b.unharmed()) && p.inside() == policy && q.inside() == request;
+    let same = [policy, request, withdrawals] == [s.policy, s.request, s.withdrawals];
+    let left = same && read.iter().chain([&f, &a]).all(|b| b.unharmed());
     (report, left)
 }
 

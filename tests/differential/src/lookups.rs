@@ -1,15 +1,17 @@
 //! The lookups of the C interface beside the plain evaluator's reading: labels, offsets, finding, reach. Each function says what is wrong, if anything.
 use crate::engine;
 use evaluator::read::{self, Policy, Value};
+use evaluator::Slices;
 use secpal::limits;
 
 /// What items and marks are lent with, to see which were written.
 const LENT: u32 = 0xA5A5_A5A5;
 
-pub fn wrong(policy: &[u8], request: &[u8]) -> Option<String> {
+pub fn wrong(slices: &Slices) -> Option<String> {
+    let policy = slices.policy;
     let accepted = read::policy(policy).ok();
     let found = |policy_read: &Option<Policy>| wrong_labels(policy, policy_read).or_else(|| wrong_finds(policy, policy_read));
-    wrong_offsets(policy, &accepted).or_else(|| found(&accepted)).or_else(|| wrong_reach(policy, request))
+    wrong_offsets(policy, &accepted).or_else(|| found(&accepted)).or_else(|| wrong_reach(slices))
 }
 
 /// Each label of an accepted policy is that part of its bytes which holds it, and not another with equal bytes; of another policy it is empty.
@@ -97,12 +99,12 @@ fn wrong_finds(policy: &[u8], accepted: &Option<Policy>) -> Option<String> {
 }
 
 /// The marks, and the refusal, for lent marks of several lengths.
-pub fn wrong_reach(policy: &[u8], request: &[u8]) -> Option<String> {
+pub fn wrong_reach(slices: &Slices) -> Option<String> {
     for room in [0, 3, 255, 300] {
         let lent = vec![LENT as u8; room];
         let mut marks = lent.clone();
-        let refusal = secpal::reach_into(policy, request, &mut marks).err().map(|r| (r.number, r.side, r.place));
-        if (marks, refusal) != evaluator::reach(policy, request, &lent) {
+        let refusal = secpal::reach_into(&engine::slices(slices), &mut marks).err().map(|r| (r.number, r.side, r.place));
+        if (marks, refusal) != evaluator::reach(slices, &lent) {
             return Some(format!("the reach, with room for {room} marks"));
         }
     }

@@ -1,5 +1,6 @@
-//! Random policies, requests and buffers: valid ones, damaged ones, and ones at the limits. A seed gives the same case again.
+//! Random policies, requests, withdrawals and buffers: valid ones, damaged ones, and ones at the limits. A seed gives the same case again.
 use crate::read::{DAY, PRINCIPAL, QUANTITY, THING};
+use crate::{Call, Slices, NONE};
 
 /// A small generator of numbers (xorshift). A wild one puts in what does not fit, now and then.
 pub struct Random(u64, bool);
@@ -46,13 +47,6 @@ impl Random {
     }
 }
 
-pub struct Inputs {
-    pub policy: Vec<u8>,
-    pub request: Vec<u8>,
-    pub facts: Vec<u8>,
-    pub answers: Vec<u8>,
-}
-
 fn two(n: usize) -> [u8; 2] {
     (n as u16).to_be_bytes()
 }
@@ -64,10 +58,12 @@ fn file(body: Vec<u8>) -> Vec<u8> {
     f
 }
 
-/// What the policy's constants and verbs are, for the statements and the request.
+/// What the policy has, for its statements and for the slices beside it.
 struct Names {
     kinds: Vec<u8>,
     verbs: Vec<Vec<u8>>,
+    /// the issuer and the serial of each assertion
+    stated: Vec<(usize, u32)>,
 }
 
 impl Names {
@@ -148,11 +144,35 @@ fn constraint(r: &mut Random, n: &Names, s: &mut Scope) -> Vec<u8> {
     c
 }
 
+/// A count byte and as many constraints.
+fn constraints(r: &mut Random, n: &Names, s: &mut Scope) -> Vec<u8> {
+    let count = r.pick(&[0, 0, 0, 1, 1, 2, 4]);
+    let mut all = vec![count];
+    for _ in 0..count {
+        all.extend(constraint(r, n, s));
+    }
+    all
+}
+
 fn nesting(r: &mut Random) -> usize {
     r.pick(&[0, 0, 0, 1, 1, 1, 2, 3])
 }
 
-fn assertion(r: &mut Random, n: &Names) -> Vec<u8> {
+fn issuer(r: &mut Random, n: &Names) -> usize {
+    let principals = n.of_kind(PRINCIPAL);
+    if principals.is_empty() || r.wild(30) {
+        r.below(n.kinds.len() + 1)
+    } else {
+        r.pick(&principals)
+    }
+}
+
+/// Few serials, so that statements share them.
+fn serial(r: &mut Random) -> u32 {
+    r.pick(&[0, 0, 1, 2, 256, u32::MAX])
+}
+
+fn assertion(r: &mut Random, n: &mut Names) -> Vec<u8> {
     let mut s = Scope::default();
     let mut body = vec![];
     let facts = r.pick(&[0, 0, 1, 1, 2, 2, 3, 4]);
@@ -164,14 +184,10 @@ fn assertion(r: &mut Random, n: &Names) -> Vec<u8> {
     let nest = nesting(r);
     let wild = r.wild(10);
     let head = fact(r, n, nest, &mut s, wild, nest > 0 || wild);
-    let tests = r.pick(&[0, 0, 0, 1, 1, 2, 4]);
-    body.push(tests);
-    for _ in 0..tests {
-        body.extend(constraint(r, n, &mut s));
-    }
-    let principals = n.of_kind(PRINCIPAL);
-    let issuer = if principals.is_empty() || r.wild(30) { r.below(n.kinds.len() + 1) } else { r.pick(&principals) };
-    let mut a = vec![0, 0, 0, r.below(256) as u8];
+    body.extend(constraints(r, n, &mut s));
+    let (issuer, serial) = (issuer(r, n), serial(r));
+    n.stated.push((issuer, serial));
+    let mut a = serial.to_be_bytes().to_vec();
     a.extend(two(issuer));
     a.extend(head);
     a.extend(body);
@@ -202,7 +218,7 @@ fn constant(r: &mut Random, kind: u8) -> Vec<u8> {
 }
 
 fn policy(r: &mut Random) -> (Vec<u8>, Names) {
-    let mut n = Names { kinds: vec![], verbs: vec![vec![PRINCIPAL]] };
+    let mut n = Names { kinds: vec![], verbs: vec![vec![PRINCIPAL]], stated: vec![] };
     let wanted = if r.once_in(100) {
         r.range(250, 255)
     } else {
@@ -247,7 +263,7 @@ fn policy(r: &mut Random) -> (Vec<u8>, Names) {
     let assertions = if wanted > 20 { r.below(3) } else { r.below(9) };
     body.extend(two(assertions));
     for _ in 0..assertions {
-        body.extend(assertion(r, &n));
+        body.extend(assertion(r, &mut n));
     }
     (file(body), n)
 }
@@ -304,6 +320,33 @@ fn request(r: &mut Random, n: &Names) -> Vec<u8> {
     file(body)
 }
 
+/// An entry that most often meets an assertion; now and then only its issuer or its serial does. A wild one has a variable.
+fn withdrawal(r: &mut Random, n: &Names) -> Vec<u8> {
+    let any = (issuer(r, n), serial(r));
+    let (issuer, known) = if n.stated.is_empty() { any } else { r.pick(&n.stated) };
+    let issuer = if r.wild(12) { 0x8000 + r.below(2) } else { r.pick(&[issuer, issuer, issuer, issuer, any.0]) };
+    let mut s = Scope::default();
+    if r.wild(12) {
+        s.kinds[r.below(2)] = r.pick(&[PRINCIPAL, THING, DAY, QUANTITY]);
+    }
+    let mut entry = two(issuer).to_vec();
+    entry.extend(r.pick(&[known, known, known, any.1]).to_be_bytes());
+    entry.extend(constraints(r, n, &mut s));
+    entry
+}
+
+fn withdrawals(r: &mut Random, n: &Names) -> Vec<u8> {
+    if r.once_in(4) {
+        return NONE.to_vec();
+    }
+    let entries = if r.once_in(100) { r.range(250, 257) } else { r.below(4) };
+    let mut body = two(entries).to_vec();
+    for _ in 0..entries {
+        body.extend(withdrawal(r, n));
+    }
+    file(body)
+}
+
 /// Some bytes changed, cut out or put in; the length field is mended half of the time.
 fn damage(r: &mut Random, s: &mut Vec<u8>) {
     for _ in 0..r.range(1, 3) {
@@ -328,18 +371,17 @@ fn damage(r: &mut Random, s: &mut Vec<u8>) {
 }
 
 /// The case with a number. Buffers are as long as `facts` and `answers` ask, a byte or a record more or less.
-pub fn case(seed: u64, sizes: impl Fn(&[u8], &[u8]) -> (usize, usize)) -> Inputs {
+pub fn case(seed: u64, sizes: impl Fn(&Slices) -> (usize, usize)) -> Call {
     let mut r = Random::new(seed);
-    let (mut policy, names) = policy(&mut r);
-    let mut request = request(&mut r, &names);
+    let (policy, names) = policy(&mut r);
+    let mut slices = [policy, request(&mut r, &names), withdrawals(&mut r, &names)];
     if r.wild(2) {
-        if r.once_in(2) {
-            damage(&mut r, &mut policy);
-        } else {
-            damage(&mut r, &mut request);
-        }
+        let damaged = r.below(slices.len());
+        damage(&mut r, &mut slices[damaged]);
     }
-    let (facts, answers) = sizes(&policy, &request);
+    let [policy, request, withdrawals] = slices;
+    let mut call = Call { policy, request, withdrawals, facts: vec![], answers: vec![] };
+    let (facts, answers) = sizes(&call.slices());
     let near = |r: &mut Random, n: usize, width: usize| match r.below(6) {
         0 => (width * n).saturating_sub(1),
         1 => width * n,
@@ -349,7 +391,7 @@ pub fn case(seed: u64, sizes: impl Fn(&[u8], &[u8]) -> (usize, usize)) -> Inputs
         _ => width * (n + r.below(40)) + r.below(width),
     };
     let fill = r.below(256) as u8;
-    let facts = vec![fill; near(&mut r, facts, 16)];
-    let answers = vec![fill; near(&mut r, answers, 8)];
-    Inputs { policy, request, facts, answers }
+    call.facts = vec![fill; near(&mut r, facts, 16)];
+    call.answers = vec![fill; near(&mut r, answers, 8)];
+    call
 }

@@ -1,4 +1,4 @@
-//! A plain evaluator of the specification (document 01): as simple as can be, and written from it alone, to compare the engine with.
+//! A plain evaluator of the specification and the requests that stand: as simple as can be, and written from them alone, to compare the engine with.
 
 pub mod calendar;
 pub mod decide;
@@ -28,17 +28,53 @@ pub enum Verdict {
 /// A refusal from the input: number, side, place.
 pub type Refusal = (u32, u32, u64);
 
-/// Both inputs, read; or the refusal.
-fn inputs(policy: &[u8], request: &[u8]) -> Result<(read::Policy, read::Request), Refusal> {
-    let policy = read::policy(policy).map_err(|(number, place)| (number, 1, place as u64))?;
-    let request = read::request(&policy, request).map_err(|(number, place)| (number, 2, place as u64))?;
-    Ok((policy, request))
+/// A slice of entries that has none: version 1, its length, a count of 0.
+pub const NONE: [u8; 7] = [1, 0, 0, 0, 2, 0, 0];
+
+/// The bytes that a call reads.
+#[derive(Debug, Clone, Copy)]
+pub struct Slices<'a> {
+    pub policy: &'a [u8],
+    pub request: &'a [u8],
+    pub withdrawals: &'a [u8],
+}
+
+/// A call of the decision: what it reads, and the two buffers as they are lent.
+#[derive(Debug, Clone)]
+pub struct Call {
+    pub policy: Vec<u8>,
+    pub request: Vec<u8>,
+    pub withdrawals: Vec<u8>,
+    pub facts: Vec<u8>,
+    pub answers: Vec<u8>,
+}
+
+impl Call {
+    pub fn slices(&self) -> Slices<'_> {
+        Slices { policy: &self.policy, request: &self.request, withdrawals: &self.withdrawals }
+    }
+}
+
+/// What is in the slices, all of them accepted.
+pub struct Inputs {
+    policy: read::Policy,
+    request: read::Request,
+    withdrawals: Vec<read::Withdrawal>,
+}
+
+/// The slices, read one after another; or the first refusal.
+fn inputs(s: &Slices) -> Result<Inputs, Refusal> {
+    let on = |side: u32| move |(number, place): read::Refusal| (number, side, place as u64);
+    let policy = read::policy(s.policy).map_err(on(1))?;
+    let request = read::request(&policy, s.request).map_err(on(2))?;
+    let withdrawals = read::withdrawals(&policy, s.withdrawals).map_err(on(3))?;
+    Ok(Inputs { policy, request, withdrawals })
 }
 
 /// The decision, from bytes to bytes.
-pub fn decision(policy: &[u8], request: &[u8], facts: &[u8], answers: &[u8]) -> Report {
-    match inputs(policy, request) {
-        Ok((policy, request)) => decide::decide(&policy, &request, facts, answers),
+pub fn decision(slices: &Slices, facts: &[u8], answers: &[u8]) -> Report {
+    match inputs(slices) {
+        Ok(inputs) => decide::decide(&inputs, facts, answers),
         Err((number, side, place)) => Report {
             verdict: Verdict::Refused(number, side, place),
             facts: 0,
@@ -51,10 +87,10 @@ pub fn decision(policy: &[u8], request: &[u8], facts: &[u8], answers: &[u8]) -> 
 }
 
 /// The marks of the reach, from bytes to bytes: `marks` as lent, and with a refusal as it was.
-pub fn reach(policy: &[u8], request: &[u8], marks: &[u8]) -> (Vec<u8>, Option<Refusal>) {
-    match inputs(policy, request) {
-        Ok((policy, request)) => {
-            let reached = decide::reach(&policy, &request);
+pub fn reach(slices: &Slices, marks: &[u8]) -> (Vec<u8>, Option<Refusal>) {
+    match inputs(slices) {
+        Ok(inputs) => {
+            let reached = decide::reach(&inputs);
             let mark = |i| u8::from(u8::try_from(i).is_ok_and(|constant| reached.contains(&constant)));
             ((0..marks.len()).map(mark).collect(), None)
         }

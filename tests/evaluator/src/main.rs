@@ -1,10 +1,10 @@
 //! Runs the evaluator on files of cases, and says how many of them it decides as they say. `--sorts N`: what comes of N generated cases.
-use evaluator::{decision, generate, vectors, Verdict};
+use evaluator::{decision, generate, vectors, Slices, Verdict};
 use std::collections::BTreeMap;
 
 /// How many facts and answers a case has, where there is room for all.
-fn sizes(policy: &[u8], request: &[u8]) -> (usize, usize) {
-    let r = decision(policy, request, &vec![0; 16 * 3000], &vec![0; 8 * 20000]);
+fn sizes(slices: &Slices) -> (usize, usize) {
+    let r = decision(slices, &vec![0; 16 * 3000], &vec![0; 8 * 20000]);
     (r.facts as usize, r.answers as usize)
 }
 
@@ -12,7 +12,7 @@ fn sorts(n: u64) {
     let mut found = BTreeMap::new();
     for seed in 0..n {
         let c = generate::case(seed, sizes);
-        let r = decision(&c.policy, &c.request, &c.facts, &c.answers);
+        let r = decision(&c.slices(), &c.facts, &c.answers);
         let sort = match r.verdict {
             Verdict::Allow => "allow".to_string(),
             Verdict::Deny => "deny".to_string(),
@@ -32,7 +32,7 @@ fn main() {
     for file in words {
         let text = std::fs::read_to_string(&file).expect("a file of cases");
         for (i, (name, c)) in vectors::cases(&text).into_iter().enumerate() {
-            let got = decision(&c.policy, &c.request, &c.facts, &c.answers);
+            let got = decision(&c.call.slices(), &c.call.facts, &c.call.answers);
             if got == c.expected {
                 passed += 1;
             } else {

@@ -1,5 +1,8 @@
-//! Policies and requests from bytes, with the refusals 1 to 7.
+//! Policies, requests and withdrawals from bytes, with the refusals 1 to 7 and 10.
 use std::collections::BTreeSet;
+
+mod withdrawals;
+pub use withdrawals::{withdrawals, Withdrawal};
 
 /// A refusal's number and place.
 pub type Refusal = (u32, usize);
@@ -36,6 +39,7 @@ pub struct Constraint {
 
 #[derive(Debug, Clone)]
 pub struct Assertion {
+    pub serial: u32,
     pub issuer: Expr,
     pub head: Fact,
     pub body: Vec<Fact>,
@@ -165,6 +169,11 @@ impl Bytes<'_> {
         let op = self.count(1, 5)?;
         Ok(Constraint { op, left: self.expr()?, right: self.expr()? })
     }
+
+    /// A count byte 0 to 4 and that many constraints.
+    fn constraints(&mut self) -> Result<Vec<Constraint>, Fault> {
+        (0..self.count(0, 4)?).map(|_| self.constraint()).collect()
+    }
 }
 
 /// "1 version absent or not 1 (place 0). 2 length field short or wrong (place 1)."
@@ -232,21 +241,18 @@ fn verb(s: &[u8], at: usize) -> Result<(Verb, usize), Fault> {
 
 fn assertion(s: &[u8], at: usize, verbs: &[Vec<u8>]) -> Result<(Assertion, usize), Fault> {
     let mut b = item(s, at, 2)?;
-    b.number(4)?;
+    let serial = b.number(4)?;
     let issuer = b.expr()?;
     let head = b.fact(verbs)?;
     let mut body = vec![];
     for _ in 0..b.count(0, 4)? {
         body.push(b.fact(verbs)?);
     }
-    let mut tests = vec![];
-    for _ in 0..b.count(0, 4)? {
-        tests.push(b.constraint()?);
-    }
+    let tests = b.constraints()?;
     if b.at != b.end {
         return Err(Fault::Form);
     }
-    Ok((Assertion { issuer, head, body, tests }, b.end))
+    Ok((Assertion { serial, issuer, head, body, tests }, b.end))
 }
 
 impl Fault {
@@ -446,7 +452,7 @@ fn safe_request(n: &Node) -> bool {
     distinct.len() == bound.len() && free.is_disjoint(&distinct) && known(n, &[].into()).is_some_and(|k| free.is_subset(&k))
 }
 
-// ---- the two readers
+// ---- the readers of policy and request
 
 pub fn policy(s: &[u8]) -> Result<Policy, Refusal> {
     header(s)?;

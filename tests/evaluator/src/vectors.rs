@@ -1,17 +1,16 @@
-//! Lines of cases: `POLICY REQUEST FACTLEN ANSLEN FILL => RESULT FACTS ANSWERS`.
-use crate::{Report, Verdict};
+//! Lines of cases: `POLICY REQUEST [WITHDRAWALS] FACTLEN ANSLEN FILL => RESULT FACTS ANSWERS`.
+use crate::{Call, Report, Verdict, NONE};
 
 pub struct Case {
-    pub policy: Vec<u8>,
-    pub request: Vec<u8>,
-    pub facts: Vec<u8>,
-    pub answers: Vec<u8>,
+    pub call: Call,
     pub expected: Report,
 }
 
 fn hex(s: &str) -> Vec<u8> {
-    if s == "-" {
-        return vec![];
+    match s {
+        "-" => return vec![],
+        "." => return NONE.to_vec(),
+        _ => {}
     }
     (0..s.len()).step_by(2).map(|i| u8::from_str_radix(&s[i..i + 2], 16).expect("hex")).collect()
 }
@@ -31,12 +30,14 @@ fn buffer(s: &str, lent: &[u8]) -> Vec<u8> {
 
 pub fn case(line: &str) -> Case {
     let (input, output) = line.split_once(" => ").expect("=>");
-    let i: Vec<&str> = input.split(' ').collect();
+    let words: Vec<&str> = input.split(' ').collect();
+    let (slices, lent) = words.split_at(words.len() - 3);
+    let slice = |i: usize| hex(slices.get(i).unwrap_or(&"."));
     let o: Vec<&str> = output.split(' ').collect();
     let number = |s: &str| s.parse::<u64>().expect("number");
-    let fill = number(i[4]) as u8;
-    let facts = vec![fill; number(i[2]) as usize];
-    let answers = vec![fill; number(i[3]) as usize];
+    let fill = number(lent[2]) as u8;
+    let facts = vec![fill; number(lent[0]) as usize];
+    let answers = vec![fill; number(lent[1]) as usize];
     let (verdict, rest) = match o[0] {
         "allow" => (Verdict::Allow, &o[1..]),
         "deny" => (Verdict::Deny, &o[1..]),
@@ -50,7 +51,7 @@ pub fn case(line: &str) -> Case {
         fact_buffer: buffer(rest[3], &facts),
         answer_buffer: buffer(rest[4], &answers),
     };
-    Case { policy: hex(i[0]), request: hex(i[1]), facts, answers, expected }
+    Case { call: Call { policy: slice(0), request: slice(1), withdrawals: slice(2), facts, answers }, expected }
 }
 
 /// The cases of a file; a line that begins with `#` names what follows.

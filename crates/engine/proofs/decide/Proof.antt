@@ -1,26 +1,49 @@
+-- By what the policy's reader says.
+use borrow.Author.Needs.{needs}
 use Rattle.deciding.proofs.Refusing.{policy-call}
 use Rattle.model.specs.Decision.{lent}
-use borrow.Author.Needs.{needs}
 use Rattle.engine.proofs.decide.Statement.{statement}
 use Rattle.engine.proofs.decide.Tie as tie
+
+read-requires : tie.Need-read-requires
+read-requires c κs = search needs
+
+enum-told : tie.Need-enum-told
+enum-told c = search needs
+
+accepted-requires : tie.Need-accepted-requires
+accepted-requires c κs = search needs
+
+enum-known-a : tie.Need-enum-known-a
+enum-known-a c = search needs
+
+same-length : tie.Need-same-length
+same-length c = search needs
+
+same-length-2 : tie.Need-same-length-2
+same-length-2 c = search needs
+
+returns : tie.Need-returns
+returns c = search needs
 
 returns-2 : tie.Need-returns-2
 returns-2 c =
     let told = c .before in
     let read = told .before .before in
-    let entry = read .before .before .before .before .before in
-    let a = entry .args in
-    policy-call (lent (a .policy .now) (a .request .now) (a .facts .now) (a .answers .now)) (read .read .result) _ _ (read .read .ensures) (told .a .given .1)
+    let lends = read .before .before .before in
+    let a = lends .before .before .before .args in
+    policy-call (lent (a .policy .now) (a .request .now) (a .withdrawals .now) (a .facts .now) (a .answers .now)) (read .read .result) _ _ (read .read .ensures)
+    (told .a .given .1)
 
 pub decide-spec : {M : Type 1} → statement M
 decide-spec =
     tie.close
     (tie.spec
-    (λ c κs. search needs)
-    (λ c. search needs)
-    (λ c κs. search needs)
-    (λ c. search needs)
-    (λ c. search needs)
-    (λ c. search needs)
-    (λ c. search needs)
+    read-requires
+    enum-told
+    accepted-requires
+    enum-known-a
+    same-length
+    same-length-2
+    returns
     returns-2)

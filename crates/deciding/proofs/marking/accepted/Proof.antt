@@ -1,59 +1,66 @@
--- `marking::accepted` meets its contract, by what the request's reader says.
+-- By what the request's reader says.
 use mathlib.Core.Path.{_≡_, sym, ap, _∙_}
+use borrow.Author.Needs.{needs}
 use Rattle.model.specs.Decision.{slices}
 use Rattle.demands.specs.Lookups.{Reached}
 use Rattle.outcome.specs.Numbers.{refusalOf}
 use Rattle.deciding.proofs.Refusing.{takes, request-taken}
-use Rattle.deciding.proofs.MarkLaws.{accepted-words, refused-words}
-use borrow.Author.Needs.{needs}
+use Rattle.deciding.proofs.MarkLaws.{refused-words}
 use Rattle.deciding.proofs.marking.accepted.Statement.{statement}
 use Rattle.deciding.proofs.marking.accepted.Tie as tie
 
-mark-reach-requires : tie.Need-mark-reach-requires
-mark-reach-requires c κs =
+-- the entry, from the place after the request was read
+abbrev entry : tie.After-read → tie.Start
+entry c = let tables = c .before .before .before .before in let known = tables .before in known .before .before .before .before
+
+slice-aggregate-read : tie.Need-slice-aggregate-read
+slice-aggregate-read c = search needs
+
+slice-aggregate-read-2 : tie.Need-slice-aggregate-read-2
+slice-aggregate-read-2 c = search needs
+
+read-requires : tie.Need-read-requires
+read-requires c κs = search needs
+
+asked-requires : tie.Need-asked-requires
+asked-requires c κs =
     let read = c .before .before .before in
-    let entry = read .before .before .before .before .before .before .before .before in
-    let args = entry .args in
+    let start = entry read in
+    let a = start .args in
     let d = read .read in
     let z : d .result .refusal ≡ 0 = search needs in
-    let t = takes (args .policy .now) (args .request .now) (args .x) (entry .pre .0) (entry .pre .1) (d .result) (d .ensures .0) z (d .ensures .1 z) in
-    ((t .0, t .1, t .2 .accepts), t .2 .short)
+    takes (a .policy .now) (a .request .now) (a .x) (start .pre .0) (start .pre .1) (d .result) (d .ensures .0) z (d .ensures .1 z)
+
+same-length : tie.Need-same-length
+same-length c = search needs
 
 returns : tie.Need-returns
-returns c =
-    let marked = c .before .before .before in
-    let read = marked .before .before .before .before in
-    let entry = read .before .before .before .before .before .before .before .before in
-    let args = entry .args in
-    let d = read .read in
-    let z : d .result .refusal ≡ 0 = search needs in
-    let t = takes (args .policy .now) (args .request .now) (args .x) (entry .pre .0) (entry .pre .1) (d .result) (d .ensures .0) z (d .ensures .1 z) in
-    let words = sym (accepted-words (t .2 .accepts) (args .marks .now)) in (
-      c .refused .ensures ∙ ap refusalOf words,
-      marked .mark-reach .ensures (t .0) (t .1) (t .2 .accepts) ∙ ap (λ (κ : Reached). κ .marks) words,
-    )
+returns c = search needs
+
+refused-requires : tie.Need-refused-requires
+refused-requires c κs = search needs
 
 returns-2 : tie.Need-returns-2
 returns-2 c =
     let read = c .before .before .before in
-    let entry = read .before .before .before .before .before .before .before .before in
-    let args = entry .args in
+    let start = entry read in
+    let a = start .args in
     let d = read .read in
-    let refused = request-taken (args .policy .now) (args .request .now) (args .x) (entry .pre .0) (entry .pre .1) (d .result) (d .ensures .0)
-    (search needs) in
-    let words = sym (refused-words (slices (args .policy .now) (args .request .now)) (args .marks .now) (d .result .refusal) 2 (d .result .place) refused) in
-    (c .refused2 .ensures ∙ ap refusalOf words, ap (λ (κ : Reached). κ .marks) words)
+    let refuses = request-taken (a .policy .now) (a .request .now) (a .x) (start .pre .0) (start .pre .1) (d .result) (d .ensures .0) (search needs)
+    (a .withdrawals .now) in
+    let words = sym (refused-words (slices (a .policy .now) (a .request .now) (a .withdrawals .now)) (a .marks .now) (d .result .refusal) 2 (d .result .place)
+    refuses) in
+    (c .refused .ensures ∙ ap refusalOf words, ap (λ (κ : Reached). κ .marks) words)
 
 pub accepted-spec : {M : Type 1} → statement M
 accepted-spec =
     tie.close
     (tie.spec
-    (λ c. search needs)
-    (λ c. search needs)
-    (λ c κs. search needs)
-    mark-reach-requires
-    (λ c κs. search needs)
-    (λ c. search needs)
+    slice-aggregate-read
+    slice-aggregate-read-2
+    read-requires
+    asked-requires
+    same-length
     returns
-    (λ c κs. search needs)
+    refused-requires
     returns-2)

@@ -1,44 +1,66 @@
--- `marking::mark_reach` meets its contract: all assertions are left, and the marks that `reached` gives are those of the model's reach.
-use mathlib.Core.Path.{_∙_}
+-- The marks that `reached` gives over what is left are those of the model's reach.
+use mathlib.Core.Path.{refl, _∙_}
 use lib.ListN.{length}
+use borrow.Author.Needs.{needs}
+use Rattle.model.specs.Withdrawals.{leftIn}
 use Rattle.model.specs.Policies.{policyOf}
 use Rattle.model.specs.Deciding.{read}
 use Rattle.demands.specs.Lookups.{reachOf}
-use Rattle.deciding.proofs.Reaching.{all-left}
 use Rattle.deciding.proofs.MarkLaws.{bytes-marks}
-use borrow.Author.Needs.{needs}
 use Rattle.deciding.proofs.marking.mark_reach.Statement.{statement}
 use Rattle.deciding.proofs.marking.mark_reach.Tie as tie
 
--- the entry, from the place before the reach
+-- the entry, from the place before the list is cut
 abbrev entry : tie.After-left2 → tie.Start
-entry c = let lent = c .before .before in lent .before .before .before
+entry c = let lent = c .before .before .before in lent .before .before .before
+
+slice-aggregate-left : tie.Need-slice-aggregate-left
+slice-aggregate-left c = let issuers = entry c .good .1 .0 .1 .1 .1 .1 .1 .1 .1 .1 in search (needs, issuers)
+
+left-requires : tie.Need-left-requires
+left-requires c κs = let start = entry c in let p = start .pre in (refl, (start .args .request .now, p .0, p .1, p .2, p .3, p .4))
 
 slice-aggregate-reached : tie.Need-slice-aggregate-reached
-slice-aggregate-reached c = let issuers = entry c .good .1 .0 .1 .1 .1 .1 .1 .1 .1 .1 in search (needs, issuers)
+slice-aggregate-reached c = search needs
 
 reached-requires : tie.Need-reached-requires
 reached-requires c κs =
-    let p = entry c .pre in
-    let accepts = p .0 .2 in
-    ((p .0 .0, p .0 .1, policyOf (p .0 .0) .assertions, accepts, all-left accepts), p .1)
+    let left = c .before .before in
+    let start = entry (left .before) in
+    let p = start .pre in
+    let leaves = left .left3 .ensures (start .args .request .now) (p .0) (p .1) (p .2) (p .3) (p .4) in
+    ((p .0, p .1, leftIn (read (policyOf (p .0)) (p .1) (p .2)), p .3 .accepts, leaves), p .3 .short)
+
+slice-aggregate-mark : tie.Need-slice-aggregate-mark
+slice-aggregate-mark c = search needs
+
+mark-requires : tie.Need-mark-requires
+mark-requires c κs = search needs
+
+same-length : tie.Need-same-length
+same-length c = search needs
 
 returns : tie.Need-returns
 returns c =
     let mark = c .before .before in
     let reached = mark .before .before .before in
-    let args = entry (reached .before) .args in
-    λ A q accepts.
-    let marks = reached .reached .ensures A q (policyOf A .assertions) accepts (all-left accepts) in
-    mark .mark .ensures ∙ bytes-marks (reachOf (read (policyOf A) q)) (reached .reached .result) marks (length (args .marks .now)) 0
+    let left = reached .before .before .before in
+    let start = entry (left .before) in
+    λ A q ws k d.
+    let R = read (policyOf A) q ws in
+    let leaves = left .left3 .ensures (start .args .request .now) A q ws k d in
+    let marks = reached .reached .ensures A q (leftIn R) (k .accepts) leaves in
+    mark .mark .ensures ∙ bytes-marks (reachOf R) (reached .reached .result) marks (length (start .args .marks .now)) 0
 
 pub mark-reach-spec : {M : Type 1} → statement M
 mark-reach-spec =
     tie.close
     (tie.spec
+    slice-aggregate-left
+    left-requires
     slice-aggregate-reached
     reached-requires
-    (λ c. search needs)
-    (λ c κs. search needs)
-    (λ c. search needs)
+    slice-aggregate-mark
+    mark-requires
+    same-length
     returns)

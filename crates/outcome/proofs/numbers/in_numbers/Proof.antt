@@ -26,8 +26,8 @@ told-requires c κs = small (c .before .o .given .1) (c .before .before .before 
 told-requires-2 : tie.Need-told-requires-2
 told-requires-2 c κs = small (c .before .o2 .given .1) (c .before .before .before .pre)
 
-refused-requires-4 : tie.Need-refused-requires-4
-refused-requires-4 c κs = small (c .before .o5 .given .1) (c .before .before .before .pre)
+refused-requires-5 : tie.Need-refused-requires-5
+refused-requires-5 c κs = small (c .before .o6 .given .1) (c .before .before .before .pre)
 
 returns : tie.Need-returns
 returns c = c .told .ensures ∙ same (c .before .before .o .given .1)
@@ -42,10 +42,13 @@ returns-4 : tie.Need-returns-4
 returns-4 c = c .refused2 .ensures ∙ same (c .before .before .o4 .given .1)
 
 returns-5 : tie.Need-returns-5
-returns-5 c = let e : c .before .before .before .args .o ≡ TooManyFacts = search needs in c .refused3 .ensures ∙ same e
+returns-5 c = c .refused3 .ensures ∙ same (c .before .before .o5 .given .1)
 
 returns-6 : tie.Need-returns-6
-returns-6 c = c .refused4 .ensures ∙ same (c .before .before .o5 .given .1)
+returns-6 c = let e : c .before .before .before .args .o ≡ TooManyFacts = search needs in c .refused4 .ensures ∙ same e
+
+returns-7 : tie.Need-returns-7
+returns-7 c = c .refused5 .ensures ∙ same (c .before .before .o6 .given .1)
 
 pub in-numbers-spec : {M : Type 1} → statement M
 in-numbers-spec =
@@ -62,10 +65,13 @@ in-numbers-spec =
     (λ c. search needs)
     (λ c κs. search needs)
     (λ c. search needs)
-    refused-requires-4
+    (λ c κs. search needs)
+    (λ c. search needs)
+    refused-requires-5
     returns
     returns-2
     returns-3
     returns-4
     returns-5
-    returns-6)
+    returns-6
+    returns-7)
