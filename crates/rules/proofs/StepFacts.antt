@@ -23,7 +23,7 @@ use Rattle.rules.specs.Matching.{at, fits, follow}
 use Rattle.rules.specs.Plan.{Part, bodyFact, variable, Mode, every, enough, once, look, finds, Step}
 use Rattle.rules.specs.Patterns.{Pattern, Frame}
 use Rattle.rules.specs.Cond.{upto, single, tooNew, may, bodyRow, hold, rowOf, placesOf, isLate, carried, sourceOf}
-use Rattle.rules.specs.Valid.{marked, exprsOf, There, Testable, after}
+use Rattle.rules.specs.Valid.{marked, exprsOf, There, Testable, Newly, after}
 use Rattle.rules.specs.Proper.{HasAll}
 use Rattle.rules.proofs.MatchFacts.{Under, Ground, row-on, row-bound, Fitted, fits-of}
 use Rattle.rules.proofs.KindFacts.{upto-of}
@@ -58,6 +58,10 @@ marks-row (var w ∷ es) {β} {τ} b h = marks-row es (record { of = λ v z. go 
 
 pub marks-on : {β θ τ : List ℕ} → Marks β θ → Under θ τ → Marks β τ
 marks-on {β} {θ} {τ} b u = record { of = λ v z. b .of v (⊎-elim (λ y. y) (λ (y : at θ v ≡ at τ v). y ∙ z) (u .of v)) }
+
+-- a constraint whose last variable is bound newly is told
+pub newly-told : {p : Pattern} {β γ : List ℕ} {i : ℕ} → Newly p β γ i → Testable p γ i
+newly-told n = (n .there, n .now)
 
 -- ---- the search
 
