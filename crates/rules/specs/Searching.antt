@@ -2,7 +2,7 @@
 -- that a partial binding is carried on exactly if what is matched so far fits and every constraint whose variables are all bound holds; one without variables
 -- is tried before the first body fact."
 use mathlib.Core.Path.{_≡_}
-use mathlib.Core.Logic.{_≢_}
+use mathlib.Core.Logic.{_≢_, _↔_}
 use mathlib.Core.Bool.{true, false}
 use mathlib.Core.Option.{some}
 use mathlib.Core.List.{List, [], _∷_, _++_, map, List·Memᴰ}
@@ -20,9 +20,6 @@ use Rattle.rules.specs.Plan.{Part, bodyFact, variable, Mode, every, enou
 use Rattle.rules.specs.Patterns.{Frame}
 use Rattle.rules.specs.Cond.{may, rowOf, placesOf, isLate, sourceOf, hold, carried, search, headEntry, condAt, unbound8}
 use Rattle.rules.specs.Valid.{There}
-
-abbrev pub Exactly : Type 0 → Type 0 → Type 0
-Exactly A B = (A → B) × (B → A)
 
 -- a body fact with an entry of the table, or a variable with the constant that is chosen for it
 abbrev pub Match : Type 0
@@ -75,9 +72,9 @@ module _ (F : Frame) (t : List (List ℕ)) where
         → Visits ss τ ss′ θ′ → Visits (s ∷ ss) θ ss′ θ′
 
   -- a carried binding that is whole: it has the given match, every body fact is matched, every variable bound; and its head is r
-  pub record Ends (given : Match) (ms : List Match) (θ r : List ℕ) : Type 0 where
+  pub record Ends (start : Match) (ms : List Match) (θ r : List ℕ) : Type 0 where
     pub carried : Carried ms θ
-    pub given : List·Memᴰ given ms
+    pub given : List·Memᴰ start ms
     pub facts : (i : ℕ) → i < F .pattern .bodies → (y : List ℕ) × List·Memᴰ (bodyFact i, y) ms
     pub whole : (v : ℕ) → v < 8 → F .pattern .kind v ≢ 0 → at θ v ≢ unbound
     pub head : r ≡ headEntry F θ
@@ -91,16 +88,16 @@ module _ (F : Frame) (t : List (List ℕ)) where
 
   pub record CarriedExactly : Type 0 where
     -- "a partial binding is carried on exactly if what is matched so far fits and every constraint whose variables are all bound holds"
-    pub fit : (ms : List Match) (θ : List ℕ) → Exactly (Carried ms θ) (Fits ms θ × Tested θ)
+    pub fit : (ms : List Match) (θ : List ℕ) → Carried ms θ ↔ (Fits ms θ × Tested θ)
     -- "one without variables is tried before the first body fact": what is tested before anything is matched, and with the given fact
-    pub begins : Exactly (hold F (along .ground) unbound8 ≡ true) (Carried [] unbound8)
+    pub begins : (hold F (along .ground) unbound8 ≡ true) ↔ Carried [] unbound8
     pub starts : {q τ : List ℕ} → Offered (bodyFact (F .skip)) q → fits (may F) unbound8 (rowOf F (bodyFact (F .skip))) (factOf q) ≡ some τ
-        → Carried [] unbound8 → Exactly (hold F (along .first) τ ≡ true) (Carried (given q ∷ []) τ)
+        → Carried [] unbound8 → (hold F (along .first) τ ≡ true) ↔ Carried (given q ∷ []) τ
     -- wherever the search comes to, its binding is carried, and a step carries it on by y to just the binding to which it goes on so
     pub visited : {q τ θ : List ℕ} {ss : List Step} → Carried (given q ∷ []) τ → Visits (along .steps) τ ss θ
         → (ms : List Match) × Carried ms θ
     pub stepped : {q τ θ : List ℕ} {s : Step} {ss : List Step} → Carried (given q ∷ []) τ → Visits (along .steps) τ (s ∷ ss) θ
-        → {y σ : List ℕ} → Offered (s .part) y → Exactly (List·Memᴰ σ (carried F s θ y)) (Next θ (s .part) y σ)
+        → {y σ : List ℕ} → Offered (s .part) y → List·Memᴰ σ (carried F s θ y) ↔ Next θ (s .part) y σ
     -- the heads that are listed are those of the carried bindings that are whole
     pub heads : {q r : List ℕ} → Offered (bodyFact (F .skip)) q
-        → Exactly (List·Memᴰ r (condAt F t (factOf q))) ((ms : List Match) × (θ : List ℕ) × Ends (given q) ms θ r)
+        → List·Memᴰ r (condAt F t (factOf q)) ↔ ((ms : List Match) × (θ : List ℕ) × Ends (given q) ms θ r)
