@@ -182,7 +182,7 @@ module _ {𝒜 : List Assertion} {F : Frame} {a : Assertion} (S : Framed 𝒜 F 
         let q : List ℕ = w .0 ∷ key (factAt S θ (F .skip)) in
         let is = body-is S θ (F .skip) h in
         let start : Under unbound8 θ = record { of = λ v. inl (unbound-at v) } in
-        let τ = fits-some (may F) given-row (factOf q) unbound8 θ (Sr .rows (F .skip) b) start is (λ v l. stands (Sr .over) θ (A .binds) v l) in
+        let τ = fits-some (may F) given-row (factOf q) unbound8 θ (Sr .rows (F .skip) b) start is (λ v l k. stands (Sr .over) θ (A .binds) v l) in
         let f = given-fits (w .1) b (τ .1) in
         let fair = fair-on (Sr .over) f (fair-start (Sr .over)) in
         let valid = S .plans (F .skip) (inr b) in

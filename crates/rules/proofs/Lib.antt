@@ -9,6 +9,7 @@ pub mod MarkFacts
 pub mod LeftFacts
 pub mod ModeFacts
 pub mod PlanFacts
+pub mod CarriedFacts
 pub mod CondFacts
 pub mod SemiNaive
 pub mod RoundLaw

@@ -26,7 +26,7 @@ use Rattle.rules.proofs.MarkFacts.{bound-of, apart-of}
 use Rattle.rules.proofs.LeftFacts.{Sound, left-there, few}
 
 -- a variable of such a row is below 8
-small : (es : List Expr) → HasAll 8 es → (v : ℕ) → List·Memᴰ (var v) es → v < 8
+pub small : (es : List Expr) → HasAll 8 es → (v : ℕ) → List·Memᴰ (var v) es → v < 8
 small [] h v m = absurd (List·Memᴰ·not-nil m)
 small (e ∷ es) h v m = ⊎-elim (λ q. subst (Has 8) (sym q) (h .0)) (small es (h .1) v) (List·Memᴰ·cases-cons m)
 
