@@ -10,6 +10,7 @@ pub mod LeftFacts
 pub mod ModeFacts
 pub mod PlanFacts
 pub mod CarriedFacts
+pub mod VisitedFacts
 pub mod CondFacts
 pub mod SemiNaive
 pub mod RoundLaw
@@ -17,6 +18,7 @@ pub mod Good
 pub mod Shapes
 pub mod UseFacts
 pub mod Framed
+pub mod Searching
 pub mod CondRule
 pub mod RoundFacts
 pub mod Outcome
