@@ -10,6 +10,7 @@ pub mod LeftFacts
 pub mod ModeFacts
 pub mod PlanFacts
 pub mod CarriedFacts
+pub mod TestedOnce
 pub mod VisitedFacts
 pub mod CondFacts
 pub mod SemiNaive

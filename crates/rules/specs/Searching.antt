@@ -21,6 +21,22 @@ use Rattle.rules.specs.Patterns.{Frame}
 use Rattle.rules.specs.Cond.{may, rowOf, placesOf, isLate, sourceOf, hold, carried, search, headEntry, condAt, unbound8}
 use Rattle.rules.specs.Valid.{There}
 
+-- ---- no constraint is tested twice
+
+-- where a step binds for good, no step after it tests what it tests; one that only looks binds nothing, and what it tests is tested by the step that binds
+abbrev pub Apart : List Step → Type 0
+Apart [] = Unit {0}
+Apart (s ∷ ss) = (finds (s .mode) ≡ true → (i : ℕ) → List·Memᴰ i (s .tests) → (x : Step) → List·Memᴰ x ss → List·Memᴰ i (x .tests) → ⊥) × Apart ss
+
+-- looks apart, a constraint is tested in one place of a plan only
+pub record TestedOnce (plan : Plan) : Type 0 where
+  pub ground : (i : ℕ) → List·Memᴰ i (plan .ground) → List·Memᴰ i (plan .first) → ⊥
+  pub later : (i : ℕ) → List·Memᴰ i (plan .ground) → (s : Step) → List·Memᴰ s (plan .steps) → List·Memᴰ i (s .tests) → ⊥
+  pub first : (i : ℕ) → List·Memᴰ i (plan .first) → (s : Step) → List·Memᴰ s (plan .steps) → List·Memᴰ i (s .tests) → ⊥
+  pub steps : Apart (plan .steps)
+
+-- ---- what is matched, and what is carried on
+
 -- a body fact with an entry of the table, or a variable with the constant that is chosen for it
 abbrev pub Match : Type 0
 Match = Part × List ℕ
