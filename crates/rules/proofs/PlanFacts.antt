@@ -20,7 +20,7 @@ use Rattle.rules.specs.Patterns.{Pattern}
 use Rattle.rules.specs.Cond.{unbound8}
 use Rattle.rules.specs.Valid.{marked, exprsOf, There, Newly, Suits, after, Right, Steps, Some, given, Valid}
 use Rattle.rules.specs.Planning.{below, isSome, newlyTold, newTests, isLeft, withFact}
-use Rattle.rules.specs.Planning.{bestUpto, isTested, passed, choice, choices, looks, meeting, stepsFrom, planOf}
+use Rattle.rules.specs.Planning.{nextFact, isTested, passed, choice, choices, looks, meeting, stepsFrom, planOf}
 use Rattle.rules.proofs.ExtendFacts.{unbound-at}
 use Rattle.rules.proofs.TestFacts.{told-in}
 use Rattle.rules.proofs.MarkFacts.{set-grows, set-in, marked-long, marked-grows, below-of, below-in}
@@ -183,15 +183,15 @@ module _ {p : Pattern} (S : Sound p) where
       less : (i : ℕ) → i < 4 → isLeft p met i ≡ true → count S 4 (set met i 0) ≤ n
       less i h e = omega (arith, fewer S 4 i met h (omega arith) e)
 
-      go : ((bestUpto p 4 met β ≡ 4) × ((i : ℕ) → i < 4 → isLeft p met i ≡ false)) ⊎ ((bestUpto p 4 met β < 4) × (isLeft p met (bestUpto p 4 met β) ≡ true))
+      go : ((nextFact p met β ≡ 4) × ((i : ℕ) → i < 4 → isLeft p met i ≡ false)) ⊎ ((nextFact p met β < 4) × (isLeft p met (nextFact p met β) ≡ true))
           → ((i : ℕ) → i < 4 → isLeft p met i ≡ true → Serves (set met i 0) (withFact p β i) (stepsFrom p n (set met i 0) (withFact p β i)))
-          → Serves met β (cond (ltb (bestUpto p 4 met β) 4)
-          (meeting p met β (bestUpto p 4 met β) ∷ stepsFrom p n (set met (bestUpto p 4 met β) 0) (withFact p β (bestUpto p 4 met β))) (looks p 8 β))
+          → Serves met β (cond (ltb (nextFact p met β) 4)
+          (meeting p met β (nextFact p met β) ∷ stepsFrom p n (set met (nextFact p met β) 0) (withFact p β (nextFact p met β))) (looks p 8 β))
       go (inl r) ih =
-          rw (le-ltb (bestUpto p 4 met β) 4 (omega (arith, r .0)))
+          rw (le-ltb (nextFact p met β) 4 (omega (arith, r .0)))
           (looks-serve met (λ i e. true≢false (sym e ∙ r .1 i (few S i met e))) 8 β (omega arith) lb)
       go (inr r) ih =
-          let i : ℕ = bestUpto p 4 met β in
+          let i : ℕ = nextFact p met β in
           let four : i < 4 = r .0 in
           let rest = ih i four (r .1) in
           let s : Step = meeting p met β i in
@@ -199,10 +199,10 @@ module _ {p : Pattern} (S : Sound p) where
           rw (lt-ltb i 4 four) (add s β rest (here s β there (suits S met β i _ lb there (rest .later)) refl) (mode-finds S met β i) refl (r .1)
           (λ j e. other j e (ℕ-discrete j i)) (λ j e. left-back S met i j (omega arith) e .0))
         where
-          other : (j : ℕ) → isLeft p met j ≡ true → Dec (j ≡ bestUpto p 4 met β)
-              → (isLeft p (set met (bestUpto p 4 met β) 0) j ≡ true) ⊎ (bodyFact (bestUpto p 4 met β) ≡ bodyFact j)
+          other : (j : ℕ) → isLeft p met j ≡ true → Dec (j ≡ nextFact p met β)
+              → (isLeft p (set met (nextFact p met β) 0) j ≡ true) ⊎ (bodyFact (nextFact p met β) ≡ bodyFact j)
           other j e (yes q) = inr (ap bodyFact (sym q))
-          other j e (no q) = inl (left-set S met (bestUpto p 4 met β) j q ∙ e)
+          other j e (no q) = inl (left-set S met (nextFact p met β) j q ∙ e)
 
   pub plan-valid : (skip : ℕ) → Valid p skip (planOf p skip)
   unfolding planOf

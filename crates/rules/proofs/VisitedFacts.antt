@@ -211,8 +211,11 @@ module _ {F : Frame} {cs : List Constant} {ks : List ℕ} {t : L} (S : Search F 
         steps = rest .steps;
         old = λ k. rest .old (one .old k);
         new = λ x m e. ⊎-elim
-            (λ (q : x ≡ s). inr (one .by, subst (λ (z : Step). List·Memᴰ (z .part, one .by) (rest .matches)) (sym q)
-            (rest .old (one .new (subst (λ (z : Step). finds (z .mode) ≡ true) q e)))))
+            (λ (q : x ≡ s). inr (
+              one .by,
+              subst (λ (z : Step). List·Memᴰ (z .part, one .by) (rest .matches)) (sym q)
+                  (rest .old (one .new (subst (λ (z : Step). finds (z .mode) ≡ true) q e))),
+            ))
             (λ k. rest .new x k e) (List·Memᴰ·cases-cons m);
       }
 
