@@ -134,7 +134,8 @@ module _ {F : Frame} {cs : List Constant} {ks : List ℕ} {t : L} (S : Search F 
         record {
           carried = came .now .carried;
           given = given;
-          facts = λ i b. fact (came .matches) given (λ n. let s = valid .facts i b n in by (s .0) (s .3) (came .new (s .0) (s .1) (s .2))) (ℕ-discrete i (F .skip));
+          facts = λ i b. fact (came .matches) given (λ n. let s = valid .facts i b n in by (s .0) (s .3) (came .new (s .0) (s .1) (s .2)))
+              (ℕ-discrete i (F .skip));
           whole = λ v b k z. came .steps v b k (came .now .marks .of v z);
           head = v .2;
         },
