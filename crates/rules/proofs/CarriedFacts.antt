@@ -78,7 +78,7 @@ module _ {F : Frame} {cs : List Constant} {ks : List ℕ} {t : L} (S : Search F 
   carried-fits (further {ms} {θ} {y} {τ} {part} c n) =
       let old : Fits F t ms θ = carried-fits c .0 in
       let f = fits-of (may F) (rowOf F part) (placesOf F part y) (has S part θ (n .offered .there) (old .eight)) (places S part y (n .offered .among))
-          (n .fit) in (
+      (n .fit) in (
         record {
           eight = f .long ∙ old .eight;
           offered = λ p x m. ⊎-elim (λ e. subst (λ (m : Match). Offered F t (m .0) (m .1)) (sym e) (n .offered)) (old .offered p x) (List·Memᴰ·cases-cons m);
@@ -157,7 +157,7 @@ module _ {F : Frame} {cs : List Constant} {ks : List ℕ} {t : L} (S : Search F 
         passes-same (F .world) (F .pattern .test i) θ₀ θ
         (λ v m. ⊎-elim (λ (z : at θ₀ v ≡ unbound). absurd (told-bound θ₀ (F .pattern .test i) e v m z)) (λ q. q) (under .of v))
         ∙ h i l (told-in θ (F .pattern .test i) (λ v m z. told-bound θ₀ (F .pattern .test i) e v m
-            (⊎-elim (λ q. q) (λ (q : at θ₀ v ≡ at θ v). q ∙ z) (under .of v))))
+        (⊎-elim (λ q. q) (λ (q : at θ₀ v ≡ at θ v). q ∙ z) (under .of v))))
 
     abbrev offer : Offered F t part y
     offer = f .offered part y (List·Memᴰ·head refl)

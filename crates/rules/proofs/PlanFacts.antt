@@ -75,8 +75,11 @@ module _ {p : Pattern} (S : Sound p) where
       steps = (right, subst (λ (x : List ℕ). Steps p x ss) (sym (after-found (s .mode) (s .part) β f)) (rest .steps));
       tests = λ i l n. tested i l n (toldBoth γ (p .test i)) refl;
       later = λ x m. ⊎-elim
-          (λ (q : x ≡ s). subst (Later S met β) (sym q) (record { part = a; tests = λ i k. let r = new-of β γ i (subst (List·Memᴰ i) e k) in
-              (r .there, r .before) }))
+          (λ (q : x ≡ s). subst (Later S met β) (sym q) (record {
+            part = a;
+            tests = λ i k. let r = new-of β γ i (subst (List·Memᴰ i) e k) in
+                (r .there, r .before);
+          }))
           (λ k. later-back S back (marked-grows (exprsOf p (s .part)) β) (rest .later x k)) (List·Memᴰ·cases-cons m);
       facts = λ i n. ⊎-elim (λ k. further (rest .facts i k)) (λ q. (s, List·Memᴰ·head refl, f, q)) (split i n);
     }

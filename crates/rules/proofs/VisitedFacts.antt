@@ -111,7 +111,7 @@ module _ {F : Frame} {cs : List Constant} {ks : List ℕ} {t : L} (S : Search F 
         go v z (inl q) = q ∙ A .back .of v (marked-grows (exprsOf p part) β .of v z)
         go v z (inr q) =
             absurd (marked-in (exprsOf p part) β v (of-row S part v (q .0))
-                (rw (A .long) (small (rowOf F part) (has S part unbound8 (o .there) refl) v (q .0))) z)
+            (rw (A .long) (small (rowOf F part) (has S part unbound8 (o .there) refl) v (q .0))) z)
 
     pub at-next : Tested F t σ → At γ ((part, y) ∷ ms) σ
     at-next h = record {
