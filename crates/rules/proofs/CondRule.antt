@@ -25,13 +25,14 @@ use Rattle.rules.specs.Rows.{noFact}
 use Rattle.rules.specs.Matching.{fits, follow}
 use Rattle.rules.specs.Plan.{bodyFact, Plan}
 use Rattle.rules.specs.Patterns.{Frame}
-use Rattle.rules.specs.Cond.{may, headEntry, bodyRow, sourceOf, searchBy, condAt, condFirst, unbound8}
-use Rattle.rules.specs.Valid.{given}
+use Rattle.rules.specs.Cond.{may, headEntry, bodyRow, sourceOf, searchBy, grounded, condAt, condFirst, unbound8}
+use Rattle.rules.specs.Cond as Cond
+use Rattle.rules.specs.Valid.{given, Valid}
 use Rattle.rules.proofs.MatchFacts.{Under, Ground, row-on, row-bound, Fitted, fits-of, fits-some}
 use Rattle.rules.proofs.ExtendFacts.{L, In, unbound-at, stands, fair-start, fair-on}
 use Rattle.rules.proofs.Following.{follow-of, follow-in}
-use Rattle.rules.proofs.StepFacts.{not-new, Marks, marks-row, Search, Met}
-use Rattle.rules.proofs.CondFacts.{plan-of, plan-in}
+use Rattle.rules.proofs.StepFacts.{not-new, Marks, marks-row, Search, Passes, Met, hold-in}
+use Rattle.rules.proofs.CondFacts.{ground-on, plan-of, plan-in}
 use Rattle.rules.proofs.RoundLaw.{Given, Held, derived, within}
 use Rattle.rules.proofs.Good.{good, key-below, below-ground}
 use Rattle.rules.proofs.UseFacts.{told}
@@ -80,6 +81,22 @@ module _ {𝒜 : List Assertion} {F : Frame} {a : Assertion} (S : Framed 𝒜 F 
   abbrev plan : ℕ → Plan
   plan skip = F .pattern .plan skip
 
+  -- what is given, the constraints without variables hold
+  ground-of : (along : Plan) (rs : L) {c : List ℕ} → In c (grounded F along rs) → (Cond.hold F (along .ground) unbound8 ≡ true) × In c rs
+  unfolding grounded
+  ground-of along rs {c} m = go (Cond.hold F (along .ground) unbound8) refl m
+    where
+      go : (b : Bool) → Cond.hold F (along .ground) unbound8 ≡ b → In c (cond b rs []) → (Cond.hold F (along .ground) unbound8 ≡ true) × In c rs
+      go true e m = (e, m)
+      go false e m = absurd (List·Memᴰ·not-nil m)
+
+  -- they hold where all constraints do under some binding
+  ground-in : {t : L} (Sr : Search F (W .constants) ks t) {skip : ℕ} {along : Plan} → Valid (F .pattern) skip along → (rs : L) (ρ : List ℕ)
+      → ((i : ℕ) → i < F .pattern .tests → Passes Sr ρ i) → grounded F along rs ≡ rs
+  unfolding grounded
+  ground-in Sr {along = along} v rs ρ h =
+      ap (λ (b : Bool). cond b rs []) (hold-in Sr unbound8 (along .ground) (λ i m. ground-on Sr v m ρ ∙ h i (v .ground .0 i m .0)))
+
   module _ {n : ℕ} {t : L} (H : Held (Rule W 𝒜) key n t) where
     ground : (q : List ℕ) → In q t → Ground (factOf q)
     ground q m =
@@ -119,6 +136,10 @@ module _ {𝒜 : List Assertion} {F : Frame} {a : Assertion} (S : Framed 𝒜 F 
     abbrev first-match : List ℕ → Option (List ℕ)
     first-match q = fits (may F) unbound8 given-row q
 
+    -- what goes on from it
+    abbrev onward : List ℕ → L
+    onward q = follow (first-match (factOf q)) (searchBy F t (plan (F .skip)))
+
     given-fits : {q τ : List ℕ} → In q t → F .skip < bodies → first-match (factOf q) ≡ some τ → Fitted (may F) given-row (factOf q) unbound8 τ
     given-fits {q} m h e = fits-of (may F) given-row (factOf q) (Sr .rows (F .skip) h) (ground q m) e
 
@@ -131,13 +152,14 @@ module _ {𝒜 : List Assertion} {F : Frame} {a : Assertion} (S : Framed 𝒜 F 
     unfolding condAt sourceOf
     cond-gives q c mq m = go (ltb (F .skip) bodies) refl m
       where
-        go : (b : Bool) → ltb (F .skip) bodies ≡ b → In c (cond b (follow (first-match (factOf q)) (searchBy F t (plan (F .skip)))) []) → Gives n c
+        go : (b : Bool) → ltb (F .skip) bodies ≡ b → In c (cond b (grounded F (plan (F .skip)) (onward q)) []) → Gives n c
         go false e m = absurd (List·Memᴰ·not-nil m)
         go true e m =
             let h : F .skip < bodies = ltb-true (F .skip) bodies e in
-            let τ = follow-of (first-match (factOf q)) (searchBy F t (plan (F .skip))) c m in
+            let g = ground-of (plan (F .skip)) (onward q) m in
+            let τ = follow-of (first-match (factOf q)) (searchBy F t (plan (F .skip))) c (g .1) in
             let f = given-fits mq h (τ .1) in
-            let w = plan-of Sr (S .plans (F .skip) (inr h)) (given-marks mq h f) (fair-on (Sr .over) f (fair-start (Sr .over))) (τ .2) in
+            let w = plan-of Sr (S .plans (F .skip) (inr h)) (given-marks mq h f) (fair-on (Sr .over) f (fair-start (Sr .over))) (g .0) (τ .2) in
             let ρ : List ℕ = w .0 in
             let row = row-on given-row (factOf q) (ground q mq) (w .1 .under) (f .is) in
             let skipped : Met Sr (bodyFact (F .skip)) ρ =
@@ -160,14 +182,14 @@ module _ {𝒜 : List Assertion} {F : Frame} {a : Assertion} (S : Framed 𝒜 F 
         let q : List ℕ = w .0 ∷ key (factAt S θ (F .skip)) in
         let is = body-is S θ (F .skip) h in
         let start : Under unbound8 θ = record { of = λ v. inl (unbound-at v) } in
-        let τ = fits-some (may F) given-row (factOf q) unbound8 θ (Sr .rows (F .skip) b) start is (λ v l. stands (Sr .over) θ (A .binds) v l) in
+        let τ = fits-some (may F) given-row (factOf q) unbound8 θ (Sr .rows (F .skip) b) start is (λ v l k. stands (Sr .over) θ (A .binds) v l) in
         let f = given-fits (w .1) b (τ .1) in
         let fair = fair-on (Sr .over) f (fair-start (Sr .over)) in
         let valid = S .plans (F .skip) (inr b) in
         let found = plan-in Sr valid (given-marks (w .1) b f) fair (A .binds) (f .least θ start is) (old-met A older) (tests-of S θ (A .passes)) in
         let there = follow-in (first-match (factOf q)) (searchBy F t (plan (F .skip))) (headEntry F θ) (τ .0) (τ .1) found in
-        rw (lt-ltb (F .skip) bodies b)
-        (subst (λ (c : List ℕ). In c (follow (first-match (factOf q)) (searchBy F t (plan (F .skip))))) (head-is S θ (A .binds)) there)
+        rw (lt-ltb (F .skip) bodies b, ground-in Sr valid (onward q) θ (tests-of S θ (A .passes)))
+        (subst (λ (c : List ℕ). In c (onward q)) (head-is S θ (A .binds)) there)
 
   -- ---- an assertion without a body
 
@@ -182,11 +204,12 @@ module _ {𝒜 : List Assertion} {F : Frame} {a : Assertion} (S : Framed 𝒜 F 
   unfolding condFirst
   first-gives n c m = go (eqb bodies 0) refl m
     where
-      go : (b : Bool) → eqb bodies 0 ≡ b → In c (cond b (searchBy F [] (plan 0) unbound8) []) → Gives n c
+      go : (b : Bool) → eqb bodies 0 ≡ b → In c (cond b (grounded F (plan 0) (searchBy F [] (plan 0) unbound8)) []) → Gives n c
       go false e m = absurd (List·Memᴰ·not-nil m)
       go true e m =
           let z : bodies ≡ 0 = eqb-true bodies 0 e in
-          let w = plan-of S0 (S .plans 0 (inl refl)) (none-marks z) (fair-start (S0 .over)) m in
+          let g = ground-of (plan 0) (searchBy F [] (plan 0) unbound8) m in
+          let w = plan-of S0 (S .plans 0 (inl refl)) (none-marks z) (fair-start (S0 .over)) (g .0) (g .1) in
           let body = body-by n (w .0) (λ j h. absurd (omega (arith, S .laid .bodies))) in
           head-gives {n = n} (record { binds = w .1 .binds; passes = tests-in S (w .0) (w .1 .pass); body = body }) (w .1 .is)
 
@@ -197,4 +220,5 @@ module _ {𝒜 : List Assertion} {F : Frame} {a : Assertion} (S : Framed 𝒜 F 
       let start : Under unbound8 θ = record { of = λ v. inl (unbound-at v) } in
       let valid = S .plans 0 (inl refl) in
       let found = plan-in S0 valid (none-marks e) (fair-start (S0 .over)) (A .binds) start (λ i h. absurd (omega arith)) (tests-of S θ (A .passes)) in
-      rw (eq-eqb bodies 0 e) (subst (λ (c : List ℕ). In c (searchBy F [] (plan 0) unbound8)) (head-is S θ (A .binds)) found)
+      rw (eq-eqb bodies 0 e, ground-in S0 valid (searchBy F [] (plan 0) unbound8) θ (tests-of S θ (A .passes)))
+      (subst (λ (c : List ℕ). In c (searchBy F [] (plan 0) unbound8)) (head-is S θ (A .binds)) found)

@@ -9,6 +9,9 @@ pub mod MarkFacts
 pub mod LeftFacts
 pub mod ModeFacts
 pub mod PlanFacts
+pub mod CarriedFacts
+pub mod TestedOnce
+pub mod VisitedFacts
 pub mod CondFacts
 pub mod SemiNaive
 pub mod RoundLaw
@@ -16,6 +19,7 @@ pub mod Good
 pub mod Shapes
 pub mod UseFacts
 pub mod Framed
+pub mod Searching
 pub mod CondRule
 pub mod RoundFacts
 pub mod Outcome

@@ -127,14 +127,14 @@ module _ (may : ℕ → ℕ → Bool) where
       go false p b m false q = tt
   fit-all σ today x h = tt
 
-  fit-some : (σ : List ℕ) (e : Expr) (x : ℕ) (ρ : List ℕ) → Has (length σ) e → Under σ ρ → bound ρ e ≡ x → ((v : ℕ) → v < length σ → may v (at ρ v) ≡ true)
-      → (τ : List ℕ) × (fit may σ e x ≡ some τ)
+  fit-some : (σ : List ℕ) (e : Expr) (x : ℕ) (ρ : List ℕ) → Has (length σ) e → Under σ ρ → bound ρ e ≡ x
+      → ((v : ℕ) → v < length σ → var v ≡ e → may v (at ρ v) ≡ true) → (τ : List ℕ) × (fit may σ e x ≡ some τ)
   fit-some σ (con c) x ρ h u q m = (σ, rw (eq-eqb c x q) refl)
   fit-some σ (var v) x ρ h u q m = go (eqb (at σ v) unbound) refl
     where
       go : (b : Bool) → eqb (at σ v) unbound ≡ b
           → (τ : List ℕ) × (cond b (cond (may v x) (some (set σ v x)) none) (cond (eqb (at σ v) x) (some σ) none) ≡ some τ)
-      go true p = (set σ v x, rw (ap (may v) (sym q) ∙ m v h) refl)
+      go true p = (set σ v x, rw (ap (may v) (sym q) ∙ m v h refl) refl)
       go false p = (σ, rw (eq-eqb (at σ v) x (⊎-elim (λ z. absurd (eqb-false (at σ v) unbound p z)) (λ z. z ∙ q) (u .of v))) refl)
   fit-some σ today x ρ h u q m = absurd h
 
@@ -174,15 +174,15 @@ module _ (may : ℕ → ℕ → Bool) where
   fits-of es xs {σ} h g e = subst (AllOf (Fitted es xs σ)) e (fits-all es xs σ h g)
 
   pub fits-some : (es : List Expr) (xs σ ρ : List ℕ) → HasAll (length σ) es → Under σ ρ → map (bound ρ) es ≡ xs
-      → ((v : ℕ) → v < length σ → may v (at ρ v) ≡ true) → (τ : List ℕ) × (fits may σ es xs ≡ some τ)
+      → ((v : ℕ) → v < length σ → List·Memᴰ (var v) es → may v (at ρ v) ≡ true) → (τ : List ℕ) × (fits may σ es xs ≡ some τ)
   fits-some [] [] σ ρ h u q m = (σ, refl)
   fits-some [] (x ∷ xs) σ ρ h u q m = absurd (nil≢cons q)
   fits-some (e ∷ es) [] σ ρ h u q m = absurd (cons≢nil q)
   fits-some (e ∷ es) (x ∷ xs) σ ρ h u q m =
-      let f = fit-some σ e x ρ (h .0) u (head-eq-of-cons-eq q) m in
+      let f = fit-some σ e x ρ (h .0) u (head-eq-of-cons-eq q) (λ v l k. m v l (List·Memᴰ·head k)) in
       let o = subst (AllOf (One e x σ)) (f .1) (fit-all σ e x (h .0)) in
       let on = o .least ρ u (ap (λ (c : ℕ). c ∷ []) (head-eq-of-cons-eq q)) in
       let r =
       fits-some es xs (f .0) ρ (subst (λ (n : ℕ). HasAll n es) (sym (o .long)) (h .1)) on (tail-eq-of-cons-eq q)
-      (subst (λ (n : ℕ). (v : ℕ) → v < n → may v (at ρ v) ≡ true) (sym (o .long)) m) in
+      (subst (λ (n : ℕ). (v : ℕ) → v < n → List·Memᴰ (var v) es → may v (at ρ v) ≡ true) (sym (o .long)) (λ v l k. m v l (List·Memᴰ·tail k))) in
       (r .0, ap (λ (o : Option (List ℕ)). elim o [ none ↦ none | some τ ↦ fits may τ es xs ]) (f .1) ∙ r .1)

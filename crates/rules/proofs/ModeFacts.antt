@@ -18,7 +18,7 @@ use Rattle.rules.specs.Patterns.{Pattern}
 use Rattle.rules.specs.Cond.{unbound8}
 use Rattle.rules.specs.Proper.{Has, HasAll}
 use Rattle.rules.specs.Valid.{marked, exprsOf, Unused, Suits}
-use Rattle.rules.specs.Planning.{boundUpto, isLeft, withFact, usedTests, usedFacts, usedLater, isApart, modeOf}
+use Rattle.rules.specs.Planning.{headBound, isLeft, withFact, usedTests, usedFacts, usedLater, isApart, modeOf}
 use Rattle.rules.specs.Planning.{sides}
 use Rattle.rules.proofs.StepFacts.{Marks}
 use Rattle.rules.proofs.MarkFacts.{marks-trans, marked-long, marked-grows, marked-in, told-grows, in-sides}
@@ -26,7 +26,7 @@ use Rattle.rules.proofs.MarkFacts.{bound-of, apart-of}
 use Rattle.rules.proofs.LeftFacts.{Sound, left-there, few}
 
 -- a variable of such a row is below 8
-small : (es : List Expr) → HasAll 8 es → (v : ℕ) → List·Memᴰ (var v) es → v < 8
+pub small : (es : List Expr) → HasAll 8 es → (v : ℕ) → List·Memᴰ (var v) es → v < 8
 small [] h v m = absurd (List·Memᴰ·not-nil m)
 small (e ∷ es) h v m = ⊎-elim (λ q. subst (Has 8) (sym q) (h .0)) (small es (h .1) v) (List·Memᴰ·cases-cons m)
 
@@ -175,9 +175,9 @@ module _ {p : Pattern} (S : Sound p) where
 
     pub suits : Suits p (modeOf p met β i) (bodyFact i) β ss
     unfolding modeOf
-    suits = go (isApart p met β i) refl (boundUpto (p .head) 12 β) refl
+    suits = go (isApart p met β i) refl (headBound p β) refl
       where
-        go : (a : Bool) → isApart p met β i ≡ a → (b : Bool) → boundUpto (p .head) 12 β ≡ b → Suits p (cond a once (cond b enough every)) (bodyFact i) β ss
+        go : (a : Bool) → isApart p met β i ≡ a → (b : Bool) → headBound p β ≡ b → Suits p (cond a once (cond b enough every)) (bodyFact i) β ss
         go true e b f = unused e
         go false e false f = tt
         go false e true f = λ v m. let r = placed (p .head) v m in
@@ -186,7 +186,7 @@ module _ {p : Pattern} (S : Sound p) where
 
   pub mode-finds : (met β : List ℕ) (i : ℕ) → finds (modeOf p met β i) ≡ true
   unfolding modeOf
-  mode-finds met β i = go (isApart p met β i) (boundUpto (p .head) 12 β)
+  mode-finds met β i = go (isApart p met β i) (headBound p β)
     where
       go : (a b : Bool) → finds (cond a once (cond b enough every)) ≡ true
       go true b = refl

@@ -18,9 +18,9 @@ use Rattle.rules.specs.Matching.{at}
 use Rattle.rules.specs.Plan.{Part, bodyFact, Mode, every, enough, once, look, finds, Step}
 use Rattle.rules.specs.Patterns.{Pattern}
 use Rattle.rules.specs.Cond.{unbound8}
-use Rattle.rules.specs.Valid.{marked, exprsOf, There, Suits, after, Right, Steps, Some, given, Valid}
+use Rattle.rules.specs.Valid.{marked, exprsOf, There, Newly, Suits, after, Right, Steps, Some, given, Valid}
 use Rattle.rules.specs.Planning.{below, isSome, newlyTold, newTests, isLeft, withFact}
-use Rattle.rules.specs.Planning.{bestUpto, isTested, passed, choice, choices, looks, meeting, stepsFrom, planOf}
+use Rattle.rules.specs.Planning.{nextFact, isTested, passed, choice, choices, looks, meeting, stepsFrom, planOf}
 use Rattle.rules.proofs.ExtendFacts.{unbound-at}
 use Rattle.rules.proofs.TestFacts.{told-in}
 use Rattle.rules.proofs.MarkFacts.{set-grows, set-in, marked-long, marked-grows, below-of, below-in}
@@ -42,16 +42,15 @@ module _ {p : Pattern} (S : Sound p) where
   after-found once part β e = refl
   after-found look part β e = absurd (true≢false (sym e))
 
-  new-of : (β γ : List ℕ) (i : ℕ) → List·Memᴰ i (newTests p β γ) → (i < p .tests) × (toldBoth β (p .test i) ≡ false) × (toldBoth γ (p .test i) ≡ true)
+  new-of : (β γ : List ℕ) (i : ℕ) → List·Memᴰ i (newTests p β γ) → Newly p β γ i
   new-of β γ i m = let r = below-of (p .tests) (newlyTold p β γ) i m in go (toldBoth β (p .test i)) refl (r .0) (r .1)
     where
-      go : (b : Bool) → toldBoth β (p .test i) ≡ b → i < p .tests → cond b false (toldBoth γ (p .test i)) ≡ true
-          → (i < p .tests) × (toldBoth β (p .test i) ≡ false) × (toldBoth γ (p .test i) ≡ true)
+      go : (b : Bool) → toldBoth β (p .test i) ≡ b → i < p .tests → cond b false (toldBoth γ (p .test i)) ≡ true → Newly p β γ i
       go true q l e = absurd (true≢false (sym e))
-      go false q l e = (l, q, e)
+      go false q l e = record { there = l; before = q; now = e }
 
-  new-in : (β γ : List ℕ) (i : ℕ) → i < p .tests → toldBoth β (p .test i) ≡ false → toldBoth γ (p .test i) ≡ true → List·Memᴰ i (newTests p β γ)
-  new-in β γ i l e f = below-in (p .tests) (newlyTold p β γ) i l (ap (λ (b : Bool). cond b false (toldBoth γ (p .test i))) e ∙ f)
+  new-in : (β γ : List ℕ) (i : ℕ) → Newly p β γ i → List·Memᴰ i (newTests p β γ)
+  new-in β γ i n = below-in (p .tests) (newlyTold p β γ) i (n .there) (ap (λ (b : Bool). cond b false (toldBoth γ (p .test i))) (n .before) ∙ n .now)
 
   further : {P : Step → Type 0} {s : Step} {ss : List Step} → Some p P ss → Some p P (s ∷ ss)
   further (x, m, e, h) = (x, List·Memᴰ·tail m, e, h)
@@ -64,7 +63,7 @@ module _ {p : Pattern} (S : Sound p) where
     here : {ss : List Step} → There p (s .part) → Suits p (s .mode) (s .part) β ss → s .tests ≡ newTests p β γ → Right p β s ss
     here t u e = record {
       there = t;
-      tests = λ i m. let r = new-of β γ i (subst (List·Memᴰ i) e m) in (r .0, r .2);
+      tests = (λ i m. new-of β γ i (subst (List·Memᴰ i) e m), λ i n. subst (List·Memᴰ i) (sym e) (new-in β γ i n));
       suits = u;
     }
 
@@ -76,14 +75,18 @@ module _ {p : Pattern} (S : Sound p) where
       steps = (right, subst (λ (x : List ℕ). Steps p x ss) (sym (after-found (s .mode) (s .part) β f)) (rest .steps));
       tests = λ i l n. tested i l n (toldBoth γ (p .test i)) refl;
       later = λ x m. ⊎-elim
-          (λ (q : x ≡ s). subst (Later S met β) (sym q) (record { part = a; tests = λ i k. let r = new-of β γ i (subst (List·Memᴰ i) e k) in (r .0, r .1) }))
+          (λ (q : x ≡ s). subst (Later S met β) (sym q) (record {
+            part = a;
+            tests = λ i k. let r = new-of β γ i (subst (List·Memᴰ i) e k) in
+                (r .there, r .before);
+          }))
           (λ k. later-back S back (marked-grows (exprsOf p (s .part)) β) (rest .later x k)) (List·Memᴰ·cases-cons m);
       facts = λ i n. ⊎-elim (λ k. further (rest .facts i k)) (λ q. (s, List·Memᴰ·head refl, f, q)) (split i n);
     }
       where
         tested : (i : ℕ) → i < p .tests → toldBoth β (p .test i) ≡ false → (b : Bool) → toldBoth γ (p .test i) ≡ b
             → Some p (λ (x : Step). List·Memᴰ i (x .tests)) (s ∷ ss)
-        tested i l n true q = (s, List·Memᴰ·head refl, f, subst (List·Memᴰ i) (sym e) (new-in β γ i l n q))
+        tested i l n true q = (s, List·Memᴰ·head refl, f, subst (List·Memᴰ i) (sym e) (new-in β γ i (record { there = l; before = n; now = q })))
         tested i l n false q = further (rest .tests i l q)
 
   -- ---- the variables that no body fact binds
@@ -159,7 +162,7 @@ module _ {p : Pattern} (S : Sound p) where
               steps = (
                 record {
                   there = (omega arith, subst (λ (j : ℕ). p .kind j ≢ 0) v8 (n .1));
-                  tests = λ i m. let r = new-of β (set β v 0) i m in (r .0, r .2);
+                  tests = (new-of β (set β v 0), new-in β (set β v 0));
                   suits = tt;
                 },
                 rest .steps,
@@ -167,7 +170,7 @@ module _ {p : Pattern} (S : Sound p) where
               tests = λ i k e. further (rest .tests i k e);
               later = λ s m. ⊎-elim
                   (λ (z : s ≡ choice p look v β). subst (Later S met β) (sym z)
-                  (record { part = unset; tests = λ i k. let r = new-of β (set β v 0) i k in (r .0, r .1) }))
+                  (record { part = unset; tests = λ i k. let r = new-of β (set β v 0) i k in (r .there, r .before) }))
                   (rest .later s) (List·Memᴰ·cases-cons m);
               facts = λ i e. absurd (none i e);
             }
@@ -184,15 +187,15 @@ module _ {p : Pattern} (S : Sound p) where
       less : (i : ℕ) → i < 4 → isLeft p met i ≡ true → count S 4 (set met i 0) ≤ n
       less i h e = omega (arith, fewer S 4 i met h (omega arith) e)
 
-      go : ((bestUpto p 4 met β ≡ 4) × ((i : ℕ) → i < 4 → isLeft p met i ≡ false)) ⊎ ((bestUpto p 4 met β < 4) × (isLeft p met (bestUpto p 4 met β) ≡ true))
+      go : ((nextFact p met β ≡ 4) × ((i : ℕ) → i < 4 → isLeft p met i ≡ false)) ⊎ ((nextFact p met β < 4) × (isLeft p met (nextFact p met β) ≡ true))
           → ((i : ℕ) → i < 4 → isLeft p met i ≡ true → Serves (set met i 0) (withFact p β i) (stepsFrom p n (set met i 0) (withFact p β i)))
-          → Serves met β (cond (ltb (bestUpto p 4 met β) 4)
-          (meeting p met β (bestUpto p 4 met β) ∷ stepsFrom p n (set met (bestUpto p 4 met β) 0) (withFact p β (bestUpto p 4 met β))) (looks p 8 β))
+          → Serves met β (cond (ltb (nextFact p met β) 4)
+          (meeting p met β (nextFact p met β) ∷ stepsFrom p n (set met (nextFact p met β) 0) (withFact p β (nextFact p met β))) (looks p 8 β))
       go (inl r) ih =
-          rw (le-ltb (bestUpto p 4 met β) 4 (omega (arith, r .0)))
+          rw (le-ltb (nextFact p met β) 4 (omega (arith, r .0)))
           (looks-serve met (λ i e. true≢false (sym e ∙ r .1 i (few S i met e))) 8 β (omega arith) lb)
       go (inr r) ih =
-          let i : ℕ = bestUpto p 4 met β in
+          let i : ℕ = nextFact p met β in
           let four : i < 4 = r .0 in
           let rest = ih i four (r .1) in
           let s : Step = meeting p met β i in
@@ -200,23 +203,27 @@ module _ {p : Pattern} (S : Sound p) where
           rw (lt-ltb i 4 four) (add s β rest (here s β there (suits S met β i _ lb there (rest .later)) refl) (mode-finds S met β i) refl (r .1)
           (λ j e. other j e (ℕ-discrete j i)) (λ j e. left-back S met i j (omega arith) e .0))
         where
-          other : (j : ℕ) → isLeft p met j ≡ true → Dec (j ≡ bestUpto p 4 met β)
-              → (isLeft p (set met (bestUpto p 4 met β) 0) j ≡ true) ⊎ (bodyFact (bestUpto p 4 met β) ≡ bodyFact j)
+          other : (j : ℕ) → isLeft p met j ≡ true → Dec (j ≡ nextFact p met β)
+              → (isLeft p (set met (nextFact p met β) 0) j ≡ true) ⊎ (bodyFact (nextFact p met β) ≡ bodyFact j)
           other j e (yes q) = inr (ap bodyFact (sym q))
-          other j e (no q) = inl (left-set S met (bestUpto p 4 met β) j q ∙ e)
+          other j e (no q) = inl (left-set S met (nextFact p met β) j q ∙ e)
 
   pub plan-valid : (skip : ℕ) → Valid p skip (planOf p skip)
   unfolding planOf
   plan-valid skip =
       let v = steps-serve 4 (set unbound8 skip 0) (given p skip) (count-most S 4 _) (length-set unbound8 skip 0) given-long in
       record {
-        first = λ i m. below-of (p .tests) (λ (i : ℕ). toldBoth (given p skip) (p .test i)) i m;
+        ground = (below-of (p .tests) groundly, λ i n. below-in (p .tests) groundly i (n .0) (n .1));
+        first = (new-of unbound8 (given p skip), new-in unbound8 (given p skip));
         steps = v .steps;
         facts = λ i l n. v .facts i (left-set S unbound8 skip i n ∙ ap (λ (b : Bool). cond b (eqb (at unbound8 i) unbound) false) (lt-ltb i (p .bodies) l)
             ∙ eq-eqb (at unbound8 i) unbound (unbound-at i));
-        tests = λ i l. tested i l (toldBoth (given p skip) (p .test i)) refl (v .tests i l);
+        tests = λ i l. tested i l (groundly i) refl (toldBoth (given p skip) (p .test i)) refl (v .tests i l);
       }
     where
+      groundly : ℕ → Bool
+      groundly = λ (i : ℕ). toldBoth unbound8 (p .test i)
+
       given-long : length (given p skip) ≡ 8
       given-long = go (ltb skip (p .bodies))
         where
@@ -224,7 +231,9 @@ module _ {p : Pattern} (S : Sound p) where
           go true = marked-long (p .body skip) unbound8
           go false = refl
 
-      tested : {A : Type 0} (i : ℕ) → i < p .tests → (b : Bool) → toldBoth (given p skip) (p .test i) ≡ b → (toldBoth (given p skip) (p .test i) ≡ false → A)
-          → List·Memᴰ i (below (p .tests) (λ (i : ℕ). toldBoth (given p skip) (p .test i))) ⊎ A
-      tested i l true e h = inl (below-in (p .tests) (λ (i : ℕ). toldBoth (given p skip) (p .test i)) i l e)
-      tested i l false e h = inr (h e)
+      tested : {A : Type 0} (i : ℕ) → i < p .tests → (g : Bool) → groundly i ≡ g → (b : Bool) → toldBoth (given p skip) (p .test i) ≡ b
+          → (toldBoth (given p skip) (p .test i) ≡ false → A)
+          → List·Memᴰ i (below (p .tests) groundly) ⊎ (List·Memᴰ i (newTests p unbound8 (given p skip)) ⊎ A)
+      tested i l true g b e h = inl (below-in (p .tests) groundly i l g)
+      tested i l false g true e h = inr (inl (new-in unbound8 (given p skip) i (record { there = l; before = g; now = e })))
+      tested i l false g false e h = inr (inr (h e))

@@ -23,7 +23,7 @@ use Rattle.rules.specs.Matching.{at, fits, follow}
 use Rattle.rules.specs.Plan.{Part, bodyFact, variable, Mode, every, enough, once, look, finds, Step}
 use Rattle.rules.specs.Patterns.{Pattern, Frame}
 use Rattle.rules.specs.Cond.{upto, single, tooNew, may, bodyRow, hold, rowOf, placesOf, isLate, carried, sourceOf}
-use Rattle.rules.specs.Valid.{marked, exprsOf, There, Testable, after}
+use Rattle.rules.specs.Valid.{marked, exprsOf, There, Testable, Newly, after}
 use Rattle.rules.specs.Proper.{HasAll}
 use Rattle.rules.proofs.MatchFacts.{Under, Ground, row-on, row-bound, Fitted, fits-of}
 use Rattle.rules.proofs.KindFacts.{upto-of}
@@ -58,6 +58,10 @@ marks-row (var w ∷ es) {β} {τ} b h = marks-row es (record { of = λ v z. go 
 
 pub marks-on : {β θ τ : List ℕ} → Marks β θ → Under θ τ → Marks β τ
 marks-on {β} {θ} {τ} b u = record { of = λ v z. b .of v (⊎-elim (λ y. y) (λ (y : at θ v ≡ at τ v). y ∙ z) (u .of v)) }
+
+-- a constraint whose last variable is bound newly is told
+pub newly-told : {p : Pattern} {β γ : List ℕ} {i : ℕ} → Newly p β γ i → Testable p γ i
+newly-told n = (n .there, n .now)
 
 -- ---- the search
 
@@ -125,25 +129,30 @@ module _ {F : Frame} {cs : List Constant} {ks : List ℕ} {t : L} (S : Search F 
     pub fitted : Fitted (may F) (rowOf F (s .part)) (placesOf F (s .part) y) θ τ
     pub tests : hold F (s .tests) τ ≡ true
 
-  pub carries : {s : Step} {θ τ y : List ℕ} → There p (s .part) → Fair (S .over) θ → In y (sourceOf F t (s .part)) → In τ (carried F s θ y) → Carries s θ τ y
+  pub carried-of : (s : Step) (θ y : List ℕ) {τ : List ℕ} → In τ (carried F s θ y)
+      → (isLate F (s .part) y ≡ false) × (fits (may F) θ (rowOf F (s .part)) (placesOf F (s .part) y) ≡ some τ) × (hold F (s .tests) τ ≡ true)
   unfolding carried
-  carries {s} {θ} {τ} {y} h a m e = go (isLate F (s .part) y) refl e
+  carried-of s θ y {τ} e = go (isLate F (s .part) y) refl e
     where
       go : (b : Bool) → isLate F (s .part) y ≡ b
           → In τ (cond b [] (follow (fits (may F) θ (rowOf F (s .part)) (placesOf F (s .part) y)) (λ (τ : List ℕ). only (hold F (s .tests) τ) τ)))
-          → Carries s θ τ y
+          → (isLate F (s .part) y ≡ false) × (fits (may F) θ (rowOf F (s .part)) (placesOf F (s .part) y) ≡ some τ) × (hold F (s .tests) τ ≡ true)
       go true q e = absurd (List·Memᴰ·not-nil e)
       go false q e =
           let o = follow-of (fits (may F) θ (rowOf F (s .part)) (placesOf F (s .part) y)) (λ (τ : List ℕ). only (hold F (s .tests) τ) τ) τ e in
           let r = only-of (hold F (s .tests) (o .0)) (o .2) in
           let same : τ ≡ o .0 = r .1 in
-          let fit = fits-of (may F) _ _ (has (s .part) θ h (a .eight)) (places (s .part) y m) (o .1) in
-          record {
-            among = m;
-            late = q;
-            fitted = subst (Fitted (may F) (rowOf F (s .part)) (placesOf F (s .part) y) θ) (sym same) fit;
-            tests = ap (hold F (s .tests)) same ∙ T-true _ (r .0);
-          }
+          (q, o .1 ∙ ap some (sym same), ap (hold F (s .tests)) same ∙ T-true _ (r .0))
+
+  pub carries : {s : Step} {θ τ y : List ℕ} → There p (s .part) → Fair (S .over) θ → In y (sourceOf F t (s .part)) → In τ (carried F s θ y) → Carries s θ τ y
+  carries {s} {θ} {τ} {y} h a m e =
+      let r = carried-of s θ y e in
+      record {
+        among = m;
+        late = r .0;
+        fitted = fits-of (may F) _ _ (has (s .part) θ h (a .eight)) (places (s .part) y m) (r .1);
+        tests = r .2;
+      }
 
   pub carried-by : (s : Step) (θ y : List ℕ) {τ : List ℕ} → isLate F (s .part) y ≡ false → fits (may F) θ (rowOf F (s .part)) (placesOf F (s .part) y) ≡ some τ
       → hold F (s .tests) τ ≡ true → In τ (carried F s θ y)

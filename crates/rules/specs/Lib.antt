@@ -4,6 +4,7 @@ pub mod Plan
 pub mod Patterns
 pub mod Cond
 pub mod Valid
+pub mod Searching
 pub mod Planning
 pub mod Uses
 pub mod Rounds
