@@ -34,3 +34,5 @@ pub mod Theorems
 pub mod CalendarFacts
 pub mod DaysOfYear
 pub mod Years
+pub mod AlikeFacts
+pub mod Alike

@@ -37,4 +37,5 @@ pub mod Nodes
 -- What is proved.
 pub mod Theorems
 pub mod Years
+pub mod Alike
 pub mod Cases
