@@ -1,13 +1,14 @@
 -- The proofs of `specs/Alike.antt`, each under its statement's name in small letters.
 use mathlib.Core.Path.{_≡_, refl, sym, ap, ap₂, subst, _∙_}
-use mathlib.Core.Bool.{Bool, true, false, _&&_, not}
+use mathlib.Core.Logic.{_⊎_, inl, inr}
+use mathlib.Core.Bool.{Bool, true, false, _&&_, not, false≢true}
 use mathlib.Core.List.{List, [], _∷_, _++_, List·Memᴰ, List·Memᴰ·head, List·Memᴰ·tail}
 use Prim.Native.Nat.{ℕ, zero, suc, _+_, _-_, _≤_, _<_}
 use native.Mathlib.Omega.{arith}
 use lib.ListN.{length, getD, take, drop}
 use lib.Dec.{T, eqb, ltb, leb}
 use borrow.Author.Tests.{eq-eqb, leb-true}
-use Rattle.model.specs.Limits.{maxConstants, maxVerbs, headerBytes}
+use Rattle.model.specs.Limits.{principal, thing, maxConstants, maxVerbs, headerBytes}
 use Rattle.model.specs.Lists.{any, front}
 use Rattle.model.specs.Syntax.{Constant, Verb, Policy}
 use Rattle.model.specs.Kinds.{noConstant}
@@ -22,14 +23,14 @@ use Rattle.model.specs.Forms.{itemThere, constantForm}
 use Rattle.model.specs.Policies.{Item, contents, Accepted, policyOf, readPolicy, alikeConstants, alikeVerbs, constantItem, verbItem}
 use Rattle.model.specs.Policies.{assertionsFrom, verbsFrom, constantsFrom, computedPolicy}
 use Rattle.model.specs.Theorems.{ReadAs}
-use Rattle.model.specs.Alike.{OnlyCapitals, AlikeLabels, BeginningLabels, OneConstant, OneVerb, nameless, OwnBytes, Arms}
+use Rattle.model.specs.Alike.{OnlyCapitals, AlikeLabels, BeginningLabels, OneConstant, OneLabel, OneVerb, nameless, OwnBytes, Arms}
 use Rattle.model.proofs.Tests.{T-true, true-T, both-of, eqb-turned}
 use Rattle.model.proofs.ListFacts.{and-of, and-in}
 use Rattle.model.proofs.ReadFacts.{choose-yes, choose-no, andThen-got, list-each, headed-got, ended-got}
 use Rattle.model.proofs.ByteFacts.{part-is}
 use Rattle.model.proofs.PolicyReader.{policy-is}
 use Rattle.model.proofs.AlikeFacts.{lower-capital, lower-below, lower-above, lowered-once, alike-agree, agree-alike, alike-long, front-of, front-in}
-use Rattle.model.proofs.AlikeFacts.{Apart, list-apart, apart-one}
+use Rattle.model.proofs.AlikeFacts.{mem-at, Apart, list-apart, apart-one}
 
 pub onlyCapitals : OnlyCapitals
 onlyCapitals = record { capital = lower-capital; below = lower-below; above = lower-above }
@@ -107,6 +108,40 @@ oneConstant policy P h i j m k e v =
     let d = getD (P .constants) j noConstant in
     apart-one noConstant alikeConstants constants-turned (P .constants) (policy-new policy P h .0) i j m k
     (and-in (eqb (c .kind) (d .kind)) (sameValue c d) (true-T _ (eq-eqb _ _ e)) (true-T _ v))
+
+zero-by : (b : Bool) (n : ℕ) → b ≡ true → _≡_ {A = ℕ} (choose b 0 n) 0
+unfolding choose
+zero-by true n k = refl
+zero-by false n k = absurd (false≢true k)
+
+-- a constant that has a label has number 0
+labelled-zero : (s : List ℕ) (earlier : List Constant) (at : ℕ) (c : Constant) (e : ℕ) → constantItem s earlier at ≡ got c e → hasLabel (c .kind) ≡ true
+    → c .number ≡ 0
+unfolding constantItem constantAt
+labelled-zero s earlier at c e h =
+    subst (λ (d : Constant). hasLabel (d .kind) ≡ true → d .number ≡ 0) (item-new _ _ (constantAt s at) c at _ e h .0) (zero-by (hasLabel (byteAt s (at + 1))) _)
+
+policy-zero : (policy : List ℕ) (P : Policy) → ReadAs policy P → (c : Constant) → List·Memᴰ c (P .constants) → hasLabel (c .kind) ≡ true → c .number ≡ 0
+unfolding computedPolicy constantsFrom verbsFrom assertionsFrom
+policy-zero s P (A, e, r, is) =
+    let c = andThen-got _ _ A e (headed-got s _ A e (sym (policy-is s) ∙ r)) in
+    let v = andThen-got _ _ A e (c .3) in
+    let a = andThen-got _ _ A e (v .3) in
+    subst (λ (Q : Policy). (x : Constant) → List·Memᴰ x (Q .constants) → hasLabel (x .kind) ≡ true → x .number ≡ 0) (ap policyOf (ended-got s _ A (a .1) e (a .3)) ∙ is)
+    (list-each (constantItem s) (λ (x : Constant). hasLabel (x .kind) ≡ true → x .number ≡ 0) (labelled-zero s) s 1 maxConstants headerBytes (c .0) (c .1) (c .2))
+
+pub oneLabel : OneLabel
+oneLabel policy P h i j m k named e same =
+    let c = getD (P .constants) i noConstant in
+    let d = getD (P .constants) j noConstant in
+    let has : hasLabel (c .kind) ≡ true = has-label (c .kind) named in
+    let zero-c : c .number ≡ 0 = policy-zero policy P h c (mem-at noConstant (P .constants) i m) has in
+    let zero-d : d .number ≡ 0 = policy-zero policy P h d (mem-at noConstant (P .constants) j k) (ap hasLabel (sym e) ∙ has) in
+    oneConstant policy P h i j m k e (ap₂ (λ (a b : Bool). a && b) same (eq-eqb _ _ (zero-c ∙ sym zero-d)))
+  where
+    has-label : (k : ℕ) → (k ≡ principal) ⊎ (k ≡ thing) → hasLabel k ≡ true
+    has-label k (inl e) = ap hasLabel e
+    has-label k (inr e) = ap hasLabel e
 
 pub oneVerb : OneVerb
 oneVerb policy P h i j m k v =

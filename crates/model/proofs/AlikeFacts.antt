@@ -85,7 +85,7 @@ module _ {A : Type 0} (d : A) where
   getD-last (y ∷ l) x zero h = absurd (omega arith)
   getD-last (y ∷ l) x (suc i) h = getD-last l x i (omega arith)
 
-  mem-at : (l : List A) (i : ℕ) → i < length l → List·Memᴰ (getD l i d) l
+  pub mem-at : (l : List A) (i : ℕ) → i < length l → List·Memᴰ (getD l i d) l
   mem-at [] i h = absurd (omega arith)
   mem-at (y ∷ l) zero h = List·Memᴰ·head refl
   mem-at (y ∷ l) (suc i) h = List·Memᴰ·tail (mem-at l i (omega arith))

@@ -1,10 +1,11 @@
 -- What is proved of labels that are alike, and of refusal 4.
 use mathlib.Core.Path.{_≡_}
-use mathlib.Core.Logic.{_↔_}
+use mathlib.Core.Logic.{_↔_, _⊎_}
 use mathlib.Core.List.{List, [], _∷_, _++_}
 use mathlib.Core.Bool.{Bool, true, false}
 use Prim.Native.Nat.{ℕ, _+_, _≤_, _<_}
 use lib.ListN.{length, getD, take, drop}
+use Rattle.model.specs.Limits.{principal, thing}
 use Rattle.model.specs.Syntax.{Constant, Verb, Policy}
 use Rattle.model.specs.Kinds.{noConstant}
 use Rattle.model.specs.Values.{lower, lowered, alike, begins, sameValue}
@@ -42,6 +43,13 @@ OneConstant = (policy : List ℕ) (P : Policy) → ReadAs policy P → (i j : �
     → getD (P .constants) i noConstant .kind ≡ getD (P .constants) j noConstant .kind
     → sameValue (getD (P .constants) i noConstant) (getD (P .constants) j noConstant) ≡ true → i ≡ j
 
+-- so a principal or a thing is the only one of its kind with its label
+abbrev pub OneLabel : Type 0
+OneLabel = (policy : List ℕ) (P : Policy) → ReadAs policy P → (i j : ℕ) → i < length (P .constants) → j < length (P .constants)
+    → (getD (P .constants) i noConstant .kind ≡ principal) ⊎ (getD (P .constants) i noConstant .kind ≡ thing)
+    → getD (P .constants) i noConstant .kind ≡ getD (P .constants) j noConstant .kind
+    → alike (getD (P .constants) i noConstant .label) (getD (P .constants) j noConstant .label) ≡ true → i ≡ j
+
 -- for numbers that no verb has
 abbrev pub nameless : Verb
 nameless = record { kinds = []; label = [] }
@@ -57,9 +65,9 @@ OwnBytes = (policy : List ℕ) (c : ℕ) → (p n : ℕ) × (p + n ≤ length po
 
 -- ---- "a policy with "Arm" and "arm" of one kind was accepted and is now refused with 4"
 
--- a policy of two things with labels of three bytes, without verbs and assertions
-abbrev pub twoThings : ℕ → List ℕ → List ℕ → List ℕ
-twoThings kind l r = 1 ∷ 0 ∷ 0 ∷ 0 ∷ 16 ∷ 0 ∷ 2 ∷ (4 ∷ 2 ∷ l) ++ (4 ∷ kind ∷ r) ++ (0 ∷ 0 ∷ 0 ∷ 0 ∷ [])
+-- a policy of a thing and a constant of a kind, with labels of three bytes, without verbs and assertions
+abbrev pub twoConstants : ℕ → List ℕ → List ℕ → List ℕ
+twoConstants kind l r = 1 ∷ 0 ∷ 0 ∷ 0 ∷ 16 ∷ 0 ∷ 2 ∷ (4 ∷ 2 ∷ l) ++ (4 ∷ kind ∷ r) ++ (0 ∷ 0 ∷ 0 ∷ 0 ∷ [])
 
 abbrev place : Reading Accepted → ℕ × ℕ
 place (got A e) = (0, e)
@@ -68,8 +76,8 @@ place (refused n p) = (n, p)
 -- alike to the first; of another kind; `A@m` beside "a`m"
 abbrev pub Arms : Type 0
 Arms = _≡_ {A = List (ℕ × ℕ)}
-    (place (readPolicy (twoThings 2 (65 ∷ 114 ∷ 109 ∷ []) (97 ∷ 114 ∷ 109 ∷ [])))
-      ∷ place (readPolicy (twoThings 1 (65 ∷ 114 ∷ 109 ∷ []) (97 ∷ 114 ∷ 109 ∷ [])))
-      ∷ place (readPolicy (twoThings 2 (65 ∷ 64 ∷ 109 ∷ []) (97 ∷ 96 ∷ 109 ∷ [])))
-      ∷ [])
+    (place (readPolicy (twoConstants 2 (65 ∷ 114 ∷ 109 ∷ []) (97 ∷ 114 ∷ 109 ∷ [])))
+    ∷ place (readPolicy (twoConstants 1 (65 ∷ 114 ∷ 109 ∷ []) (97 ∷ 114 ∷ 109 ∷ [])))
+    ∷ place (readPolicy (twoConstants 2 (65 ∷ 64 ∷ 109 ∷ []) (97 ∷ 96 ∷ 109 ∷ [])))
+    ∷ [])
     ((4, 12) ∷ (0, 21) ∷ (0, 21) ∷ [])
