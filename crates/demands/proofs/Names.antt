@@ -1,6 +1,6 @@
 -- The number of a label is that of the only constant that has it: the search ends at the first, and refusal 4 leaves no second.
 use mathlib.Core.Path.{_≡_, refl, sym, ap, ap₂, subst, _∙_}
-use mathlib.Core.Logic.{_↔_, _⊎_, inl, inr}
+use mathlib.Core.Logic.{_⊎_, inl, inr}
 use mathlib.Core.Bool.{Bool, true, false, _&&_, _||_, false≢true}
 use mathlib.Core.List.{List}
 use Prim.Native.Nat.{ℕ, zero, suc, _+_, _≤_, _<_}
@@ -12,7 +12,7 @@ use Rattle.model.specs.Limits.{principal, thing}
 use Rattle.model.specs.Syntax.{Constant, Policy}
 use Rattle.model.specs.Kinds.{noConstant}
 use Rattle.model.specs.Values.{alike}
-use Rattle.model.specs.Bytes.{choose, Reading, got}
+use Rattle.model.specs.Bytes.{choose, Reading}
 use Rattle.model.specs.Reader.{Item}
 use Rattle.model.specs.Layout.{Accepted, policyOf, readPolicy}
 use Rattle.model.specs.Theorems.{ReadAs}
@@ -21,7 +21,7 @@ use Rattle.model.proofs.ReadFacts.{accepted-count}
 use Rattle.model.proofs.Alike.{alikeLabels, oneLabel}
 use Rattle.demands.specs.Lookups.{noNumber, firstOf, isNamed, numberIn}
 use Rattle.demands.specs.Names as Q
-use Rattle.demands.specs.Names.{FindCall, Named, NumberOf}
+use Rattle.demands.specs.Names.{Named, NumberOf}
 
 -- ---- a search by number ends at the first that passes, or none passes
 
@@ -96,7 +96,8 @@ module _ (policy : List ℕ) (P : Policy) (kind : ℕ) (label : List ℕ) (h : R
   named-one i j N M =
       let l = getD cs i noConstant .label in
       let r = getD cs j noConstant .label in
-      oneLabel policy P h i j (N .there) (M .there) (subst (λ (k : ℕ). (k ≡ principal) ⊎ (k ≡ thing)) (sym (N .sameKind)) (N .labelled)) (N .sameKind ∙ sym (M .sameKind))
+      let labelled = subst (λ (k : ℕ). (k ≡ principal) ⊎ (k ≡ thing)) (sym (N .sameKind)) (N .labelled) in
+      oneLabel policy P h i j (N .there) (M .there) labelled (N .sameKind ∙ sym (M .sameKind))
       (alikeLabels .joined l label r (N .sameLabel) (alikeLabels .turned r label (M .sameLabel)))
 
   -- the number is that of one that is named, or none is

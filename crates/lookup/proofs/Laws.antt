@@ -1,11 +1,10 @@
 -- Numbers laid into a lent buffer, a search by number, and a label beside one in the policy: one step on, as the code takes it.
 use mathlib.Core.Path.{_≡_, refl, sym, ap, ap₂, _∙_}
-use mathlib.Core.Bool.{Bool, true, false, _&&_}
+use mathlib.Core.Bool.{Bool, true, false}
 use mathlib.Core.List.{List, [], _∷_, _++_}
 use Prim.Native.Nat.{ℕ, zero, suc, _+_, _-_, min, _≤_, _<_}
 use native.Mathlib.Numerals.{sub-one, add-one}
 use native.Mathlib.Omega.{arith}
-use lib.Dec.{eqb}
 use lib.ListN.{length, getD, set, take, drop}
 use lib.Seq.{ext-getD}
 use Rattle.wire.proofs.Reading.{choose-true, choose-false}

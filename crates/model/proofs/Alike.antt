@@ -2,8 +2,8 @@
 use mathlib.Core.Path.{_≡_, refl, sym, ap, ap₂, subst, _∙_}
 use mathlib.Core.Logic.{_⊎_, inl, inr}
 use mathlib.Core.Bool.{Bool, true, false, _&&_, not, false≢true}
-use mathlib.Core.List.{List, [], _∷_, _++_, List·Memᴰ, List·Memᴰ·head, List·Memᴰ·tail}
-use Prim.Native.Nat.{ℕ, zero, suc, _+_, _-_, _≤_, _<_}
+use mathlib.Core.List.{List, [], _∷_, List·Memᴰ, List·Memᴰ·head, List·Memᴰ·tail}
+use Prim.Native.Nat.{ℕ, zero, suc, _+_, _-_, _≤_}
 use native.Mathlib.Omega.{arith}
 use lib.ListN.{length, getD, take, drop}
 use lib.Dec.{T, eqb, ltb, leb}
@@ -12,7 +12,7 @@ use Rattle.model.specs.Limits.{principal, thing, maxConstants, maxVerbs,
 use Rattle.model.specs.Lists.{any, front}
 use Rattle.model.specs.Syntax.{Constant, Verb, Policy}
 use Rattle.model.specs.Kinds.{noConstant}
-use Rattle.model.specs.Values.{lower, lowered, alike, begins, sameValue}
+use Rattle.model.specs.Values.{lower, lowered, alike, sameValue}
 use Rattle.model.specs.Bytes.{byteAt, u16At, u32At, bytesAt, choose, Reading, got, refused, andThen}
 use Rattle.model.specs.Reader.{sized, times, items, byte, u16, u32, byteIn, rest, list}
 use Rattle.model.specs.Layout.{label, constant, verb, slice}
@@ -20,7 +20,7 @@ use Rattle.model.specs.Layout as layout
 use Rattle.model.specs.Labels.{labelIn, labelOf}
 use Rattle.model.specs.Readings.{itemEnd, hasLabel, constantAt}
 use Rattle.model.specs.Forms.{itemThere, constantForm}
-use Rattle.model.specs.Policies.{Item, contents, Accepted, policyOf, readPolicy, alikeConstants, alikeVerbs, constantItem, verbItem}
+use Rattle.model.specs.Policies.{contents, Accepted, policyOf, readPolicy, alikeConstants, alikeVerbs, constantItem, verbItem}
 use Rattle.model.specs.Policies.{assertionsFrom, verbsFrom, constantsFrom, computedPolicy}
 use Rattle.model.specs.Theorems.{ReadAs}
 use Rattle.model.specs.Alike.{OnlyCapitals, AlikeLabels, BeginningLabels, OneConstant, OneLabel, OneVerb, nameless, OwnBytes, Arms}
@@ -65,7 +65,8 @@ item-new form seen v x at f e h =
     no true t u = t
     no false t u = u
 
-constant-new : (s : List ℕ) (earlier : List Constant) (p : ℕ) (c : Constant) (e : ℕ) → constantItem s earlier p ≡ got c e → T (any (alikeConstants c) earlier) → ⊥
+constant-new : (s : List ℕ) (earlier : List Constant) (p : ℕ) (c : Constant) (e : ℕ) → constantItem s earlier p ≡ got c e
+    → T (any (alikeConstants c) earlier) → ⊥
 unfolding constantItem
 constant-new s earlier p c e h = let r = item-new _ _ _ c p _ e h in subst (λ (d : Constant). T (any (alikeConstants d) earlier) → ⊥) (r .0) (r .1)
 
@@ -109,26 +110,35 @@ oneConstant policy P h i j m k e v =
     apart-one noConstant alikeConstants constants-turned (P .constants) (policy-new policy P h .0) i j m k
     (and-in (eqb (c .kind) (d .kind)) (sameValue c d) (true-T _ (eq-eqb _ _ e)) (true-T _ v))
 
+-- what holds of every constant that is read holds of those of an accepted policy
+constants-each : (Q : Constant → Type 0) (s : List ℕ)
+    → ((earlier : List Constant) (at : ℕ) (c : Constant) (e : ℕ) → constantItem s earlier at ≡ got c e → Q c)
+    → (A : Accepted) (e : ℕ) → readPolicy s ≡ got A e → (c : Constant) → List·Memᴰ c (contents (A .constants)) → Q c
+unfolding computedPolicy constantsFrom verbsFrom assertionsFrom
+constants-each Q s item A e r =
+    let c = andThen-got _ _ A e (headed-got s _ A e (sym (policy-is s) ∙ r)) in
+    let v = andThen-got _ _ A e (c .3) in
+    let a = andThen-got _ _ A e (v .3) in
+    subst (λ (B : Accepted). (x : Constant) → List·Memᴰ x (contents (B .constants)) → Q x) (ended-got s _ A (a .1) e (a .3))
+    (list-each (constantItem s) Q item s 1 maxConstants headerBytes (c .0) (c .1) (c .2))
+
+-- a constant that has a label has number 0
+abbrev Plain : Constant → Type 0
+Plain c = hasLabel (c .kind) ≡ true → c .number ≡ 0
+
 zero-by : (b : Bool) (n : ℕ) → b ≡ true → _≡_ {A = ℕ} (choose b 0 n) 0
 unfolding choose
 zero-by true n k = refl
 zero-by false n k = absurd (false≢true k)
 
--- a constant that has a label has number 0
-labelled-zero : (s : List ℕ) (earlier : List Constant) (at : ℕ) (c : Constant) (e : ℕ) → constantItem s earlier at ≡ got c e → hasLabel (c .kind) ≡ true
-    → c .number ≡ 0
+labelled-zero : (s : List ℕ) (earlier : List Constant) (at : ℕ) (c : Constant) (e : ℕ) → constantItem s earlier at ≡ got c e → Plain c
 unfolding constantItem constantAt
-labelled-zero s earlier at c e h =
-    subst (λ (d : Constant). hasLabel (d .kind) ≡ true → d .number ≡ 0) (item-new _ _ (constantAt s at) c at _ e h .0) (zero-by (hasLabel (byteAt s (at + 1))) _)
+labelled-zero s earlier at c e h = subst Plain (item-new _ _ (constantAt s at) c at _ e h .0) (zero-by (hasLabel (byteAt s (at + 1))) _)
 
-policy-zero : (policy : List ℕ) (P : Policy) → ReadAs policy P → (c : Constant) → List·Memᴰ c (P .constants) → hasLabel (c .kind) ≡ true → c .number ≡ 0
-unfolding computedPolicy constantsFrom verbsFrom assertionsFrom
-policy-zero s P (A, e, r, is) =
-    let c = andThen-got _ _ A e (headed-got s _ A e (sym (policy-is s) ∙ r)) in
-    let v = andThen-got _ _ A e (c .3) in
-    let a = andThen-got _ _ A e (v .3) in
-    subst (λ (Q : Policy). (x : Constant) → List·Memᴰ x (Q .constants) → hasLabel (x .kind) ≡ true → x .number ≡ 0) (ap policyOf (ended-got s _ A (a .1) e (a .3)) ∙ is)
-    (list-each (constantItem s) (λ (x : Constant). hasLabel (x .kind) ≡ true → x .number ≡ 0) (labelled-zero s) s 1 maxConstants headerBytes (c .0) (c .1) (c .2))
+policy-zero : (policy : List ℕ) (P : Policy) → ReadAs policy P → (c : Constant) → List·Memᴰ c (P .constants) → Plain c
+policy-zero policy P h =
+    subst (λ (Q : Policy). (c : Constant) → List·Memᴰ c (Q .constants) → Plain c) (h .3)
+    (constants-each Plain policy (labelled-zero policy) (h .0) (h .1) (h .2))
 
 pub oneLabel : OneLabel
 oneLabel policy P h i j m k named e same =
@@ -171,15 +181,6 @@ module _ (s : List ℕ) where
       subst (λ (d : Constant). Part (d .label)) (item-new _ _ (constantAt s at) c at _ e h .0)
       (label-part (hasLabel (byteAt s (at + 1))) at (byteAt s at) fits long)
 
-  accepted-part : (A : Accepted) (e : ℕ) → readPolicy s ≡ got A e → (c : Constant) → List·Memᴰ c (contents (A .constants)) → Part (c .label)
-  unfolding computedPolicy constantsFrom verbsFrom assertionsFrom
-  accepted-part A e r =
-      let c = andThen-got _ _ A e (headed-got s _ A e (sym (policy-is s) ∙ r)) in
-      let v = andThen-got _ _ A e (c .3) in
-      let a = andThen-got _ _ A e (v .3) in
-      subst (λ (B : Accepted). (x : Constant) → List·Memᴰ x (contents (B .constants)) → Part (x .label)) (ended-got s _ A (a .1) e (a .3))
-      (list-each (constantItem s) (λ (x : Constant). Part (x .label)) constant-part s 1 maxConstants headerBytes (c .0) (c .1) (c .2))
-
 pub ownBytes : OwnBytes
 unfolding labelOf labelIn
 ownBytes policy c = go (readPolicy policy) refl
@@ -190,7 +191,7 @@ ownBytes policy c = go (readPolicy policy) refl
     by-number (x ∷ l) h (suc c) = by-number l (λ y m. h y (List·Memᴰ·tail m)) c
 
     go : (r : Reading Accepted) → readPolicy policy ≡ r → Part policy (labelIn r c)
-    go (got A e) h = by-number (contents (A .constants)) (accepted-part policy A e h) c
+    go (got A e) h = by-number (contents (A .constants)) (constants-each (λ (c : Constant). Part policy (c .label)) policy (constant-part policy) A e h) c
     go (refused n p) h = no-part policy
 
 pub arms : Arms

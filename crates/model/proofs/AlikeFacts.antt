@@ -1,16 +1,16 @@
 -- Labels in small letters, lists with a front, and items of which each is new to those before it.
 use mathlib.Core.Path.{_≡_, refl, sym, ap, ap₂, subst, _∙_}
-use mathlib.Core.Bool.{Bool, true, false, cond, _&&_, not, false≢true}
-use mathlib.Core.List.{List, [], _∷_, _++_, map, List·Memᴰ, List·Memᴰ·head, List·Memᴰ·tail, map-append}
+use mathlib.Core.Bool.{Bool, true, false, _&&_, not, false≢true}
+use mathlib.Core.List.{List, [], _∷_, _++_, List·Memᴰ, List·Memᴰ·head, List·Memᴰ·tail, map-append}
 use Prim.Native.Nat.{ℕ, zero, suc, _+_, _≤_, _<_}
 use native.Mathlib.Decide.{decLt}
 use native.Mathlib.Omega.{arith}
 use lib.ListN.{length, getD, length-map, length-append}
-use lib.Dec.{T, eqb, leb}
+use lib.Dec.{T, eqb}
 use borrow.Author.Tests.{le-leb, lt-leb, eqb-true}
 use Rattle.model.specs.Lists.{any, sameList, front}
 use Rattle.model.specs.Values.{lower, lowered, alike}
-use Rattle.model.specs.Bytes.{u16At, Reading, got}
+use Rattle.model.specs.Bytes.{Reading, got}
 use Rattle.model.specs.Policies.{Item, contents, itemsFrom, listAt}
 use Rattle.model.proofs.Tests.{T-true, true-T, and-true}
 use Rattle.model.proofs.ListFacts.{any-in, sameList-of, sameList-refl}

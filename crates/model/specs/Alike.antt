@@ -2,11 +2,11 @@
 use mathlib.Core.Path.{_≡_}
 use mathlib.Core.Logic.{_↔_, _⊎_}
 use mathlib.Core.List.{List, [], _∷_, _++_}
-use mathlib.Core.Bool.{Bool, true, false}
+use mathlib.Core.Bool.{true}
 use Prim.Native.Nat.{ℕ, _+_, _≤_, _<_}
 use lib.ListN.{length, getD, take, drop}
 use Rattle.model.specs.Limits.{principal, thing}
-use Rattle.model.specs.Syntax.{Constant, Verb, Policy}
+use Rattle.model.specs.Syntax.{Verb, Policy}
 use Rattle.model.specs.Kinds.{noConstant}
 use Rattle.model.specs.Values.{lower, lowered, alike, begins, sameValue}
 use Rattle.model.specs.Bytes.{Reading, got, refused}

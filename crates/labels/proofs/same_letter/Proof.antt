@@ -1,6 +1,5 @@
 -- `labels::same_letter` meets its contract: what is the same byte agrees in small letters too.
 use mathlib.Core.Path.{sym, ap, ap₂}
-use Prim.Native.Nat.{ℕ}
 use lib.Dec.{eqb}
 use borrow.Author.Tests.{eq-eqb}
 use Rattle.model.specs.Values.{lower}
