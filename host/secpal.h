@@ -73,7 +73,7 @@ enum {
     SECPAL_BAD_VERSION = 1,
     SECPAL_BAD_LENGTH = 2,
     SECPAL_BAD_FORM = 3,
-    SECPAL_ALIKE = 4,            /* a constant or verb alike to an earlier one */
+    SECPAL_ALIKE = 4,            /* a constant or verb alike to an earlier one; capitals do not tell labels apart */
     SECPAL_NO_FIT = 5,           /* an expression, kind or verb number with no fit */
     SECPAL_UNSAFE_ASSERTION = 6,
     SECPAL_UNSAFE_REQUEST = 7,
@@ -126,7 +126,8 @@ typedef struct {
 
 /*
  * The label of a constant, a principal or a thing: *label becomes that part of the caller's policy bytes, not a copy, so it lives as long as
- * they do, and no 0 byte ends it. For other kinds, numbers not present and policies that are not accepted it is a part of length 0.
+ * they do, in their own case, and no 0 byte ends it. For other kinds, numbers not present and policies that are not accepted it is a part of
+ * length 0.
  * policy and label may not be NULL.
  */
 void secpal_label(const uint8_t *policy, size_t policy_len, uint32_t constant, secpal_slice *label);
@@ -143,8 +144,8 @@ uint32_t secpal_constants(const uint8_t *policy, size_t policy_len, uint32_t *of
 uint32_t secpal_verbs(const uint8_t *policy, size_t policy_len, uint32_t *offsets, size_t offsets_len);
 
 /*
- * The number of the principal or thing (kind SECPAL_PRINCIPAL or SECPAL_THING) with this label, or SECPAL_NOT_FOUND: there is none, the kind is
- * another one, or the policy is not accepted.
+ * The number of the principal or thing (kind SECPAL_PRINCIPAL or SECPAL_THING) with this label, A to Z being read as a to z, or
+ * SECPAL_NOT_FOUND: there is none, the kind is another one, or the policy is not accepted. There is never a second one (refusal 4).
  */
 uint32_t secpal_find(const uint8_t *policy, size_t policy_len, uint32_t kind, const uint8_t *label, size_t label_len);
 #define SECPAL_NOT_FOUND UINT32_MAX

@@ -138,7 +138,7 @@ def verbs(policy):
 
 
 def find(policy, kind, name):
-    """The number of the principal or thing with this label, or None."""
+    """The number of the principal or thing with this label, whatever its capitals, or None."""
     number = _library.secpal_find(policy, len(policy), kind, name, len(name))
     return None if number == NOT_FOUND else number
 

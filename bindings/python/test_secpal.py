@@ -50,6 +50,7 @@ class Belt(unittest.TestCase):
         self.assertEqual(secpal.verbs(self.policy), [38, 49])
         self.assertEqual((secpal.label(self.policy, 2), secpal.label(self.policy, 9)), (b"Otto", b""))
         self.assertEqual(secpal.find(self.policy, secpal.PRINCIPAL, b"Otto"), 2)
+        self.assertEqual(secpal.find(self.policy, secpal.PRINCIPAL, b"oTTO"), 2)
         self.assertIsNone(secpal.find(self.policy, secpal.THING, b"Otto"))
         self.assertEqual(secpal.reach(self.policy, example("otto")), [0, 1])
 

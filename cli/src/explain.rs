@@ -46,10 +46,10 @@ pub fn policy(policy: &Policy<Numbers>, names: &Names, number: u32, span: Span) 
             return Some((span, "a policy declares one constant or more".to_string()));
         }
         if let Some(constant) = policy.constants.iter().find(|c| c.span == span) {
-            return constant_words(&constant.it, number).map(|words| (span, words));
+            return constant_words(&constant.it, names, number).map(|words| (span, words));
         }
         if let Some(verb) = policy.verbs.iter().find(|v| v.span == span) {
-            return verb_words(&verb.it, number).map(|words| (span, words));
+            return verb_words(&verb.it, names, number).map(|words| (span, words));
         }
         let assertion = policy.assertions.iter().find(|a| a.span == span)?;
         match number {
@@ -61,17 +61,33 @@ pub fn policy(policy: &Policy<Numbers>, names: &Names, number: u32, span: Span) 
     words().unwrap_or((span, general(number).to_string()))
 }
 
-fn constant_words(constant: &Constant, number: u32) -> Option<String> {
+/// `the verb May is declared already`, and as what, where only capitals differ.
+fn declared_already(what: &str, written: String, earlier: Option<String>) -> String {
+    match earlier {
+        Some(earlier) if earlier != written => {
+            format!("the {what} {written} is declared already, as {earlier}: capitals do not tell labels apart")
+        }
+        _ => format!("the {what} {written} is declared already"),
+    }
+}
+
+fn constant_words(constant: &Constant, names: &Names, number: u32) -> Option<String> {
     match constant {
-        _ if number == limits::ALIKE => Some(format!("the {} {} is declared already", constant.kind().word(), print::constant(constant))),
+        _ if number == limits::ALIKE => {
+            let earlier = names.number(constant).map(|n| print::constant(&names.constants[n as usize]));
+            Some(declared_already(constant.kind().word(), print::constant(constant), earlier))
+        }
         Constant::Label(_, label) => label_words(label),
         _ => None,
     }
 }
 
-fn verb_words(verb: &Verb, number: u32) -> Option<String> {
+fn verb_words(verb: &Verb, names: &Names, number: u32) -> Option<String> {
     match number {
-        limits::ALIKE => Some(format!("the verb {} is declared already", print::label(&verb.label))),
+        limits::ALIKE => {
+            let earlier = names.verb(&verb.label).map(|n| print::label(&names.verbs[n as usize - 1].label));
+            Some(declared_already("verb", print::label(&verb.label), earlier))
+        }
         _ => label_words(&verb.label).or(too_many(verb.kinds.len(), limits::ARITY, "parameters")),
     }
 }

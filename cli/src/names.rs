@@ -2,14 +2,24 @@
 use crate::syntax::*;
 use std::collections::HashMap;
 
-/// The constants and verbs of a policy, by number and by name.
+/// The constants and verbs of a policy, by number and by name. Capitals do not tell names apart.
 #[derive(Debug, Clone)]
 pub struct Names {
     pub constants: Vec<Constant>,
     /// verb 1 and up; verb 0 is built in
     pub verbs: Vec<Verb>,
+    /// by `key`
     constant_numbers: HashMap<Constant, u16>,
+    /// by the label in small letters
     verb_numbers: HashMap<String, u8>,
+}
+
+/// The same for constants that are alike.
+fn key(constant: &Constant) -> Constant {
+    match constant {
+        Constant::Label(kind, label) => Constant::Label(*kind, label.to_ascii_lowercase()),
+        number => number.clone(),
+    }
 }
 
 impl Names {
@@ -20,7 +30,7 @@ impl Names {
             names.add(constant);
         }
         for (i, verb) in verbs.iter().enumerate() {
-            names.verb_numbers.entry(verb.label.clone()).or_insert(i as u8 + 1);
+            names.verb_numbers.entry(verb.label.to_ascii_lowercase()).or_insert(i as u8 + 1);
         }
         names.verbs = verbs;
         names
@@ -28,13 +38,13 @@ impl Names {
 
     pub fn add(&mut self, constant: Constant) -> u16 {
         let number = self.constants.len() as u16;
-        self.constant_numbers.entry(constant.clone()).or_insert(number);
+        self.constant_numbers.entry(key(&constant)).or_insert(number);
         self.constants.push(constant);
         number
     }
 
     pub fn number(&self, constant: &Constant) -> Option<u16> {
-        self.constant_numbers.get(constant).copied()
+        self.constant_numbers.get(&key(constant)).copied()
     }
 
     pub fn labelled(&self, kind: KindOfLabel, label: &str) -> Option<u16> {
@@ -48,7 +58,7 @@ impl Names {
     }
 
     pub fn verb(&self, label: &str) -> Option<u8> {
-        self.verb_numbers.get(label).copied()
+        self.verb_numbers.get(&label.to_ascii_lowercase()).copied()
     }
 
     /// The kinds of a verb's parameters.

@@ -86,6 +86,10 @@ fn refusals_of_the_engine() {
     ]);
     let alike = complaint("alike.secpal", "principal Works\nprincipal Otto, Works\n", None);
     assert_eq!(alike, "2:17: refused (4): the principal Works is declared already");
+    let capitals = complaint("capitals.secpal", "principal Works\nthing Arm, arm\n", None);
+    assert_eq!(capitals, "2:12: refused (4): the thing arm is declared already, as Arm: capitals do not tell labels apart");
+    let verbs = complaint("verbs.secpal", "principal Works\nverb may-order\nverb May-Order\n", None);
+    assert_eq!(verbs, "3:1: refused (4): the verb May-Order is declared already, as may-order: capitals do not tell labels apart");
     let long = complaint("long.secpal", &format!("principal {}\n", "a".repeat(33)), None);
     assert_eq!(long, "1:11: refused (3): a label has 1 to 32 characters, and this one has 33");
     assert_eq!(complaint("version.secpal", "version 2\nprincipal A\n", None), "1:1: refused (1): the version is absent or not known");

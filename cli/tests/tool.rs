@@ -32,6 +32,12 @@ fn allow_is_0() {
 }
 
 #[test]
+fn names_in_either_case_are_printed_as_declared() {
+    let ran = secpal(&["decide", POLICY, "on 2026-11-16 ask works says OTTO May-Order ENCODER"]);
+    assert_eq!((ran.status, ran.printed.as_str()), (0, "allow: Works says Otto may-order encoder\n"));
+}
+
+#[test]
 fn deny_is_1_and_says_what_was_asked() {
     let ran = secpal(&["decide", POLICY, "on 2028-11-16 ask Works says Otto may-order encoder"]);
     assert_eq!(ran.status, 1);

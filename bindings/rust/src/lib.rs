@@ -166,7 +166,7 @@ pub fn verbs(policy: &[u8]) -> Vec<u32> {
     all(limits::VERBS, |offsets| verbs_into(policy, offsets))
 }
 
-/// The number of the constant with this kind and label.
+/// The number of the constant with this kind and label; capitals do not tell labels apart.
 pub fn find(policy: &[u8], kind: u8, label: &[u8]) -> Option<u32> {
     // Both pointers are to as many bytes as their lengths say.
     let number = unsafe { raw::secpal_find(policy.as_ptr(), policy.len(), kind.into(), label.as_ptr(), label.len()) };

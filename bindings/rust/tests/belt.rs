@@ -26,6 +26,7 @@ fn names_and_offsets() {
     assert_eq!(secpal::label(&policy, 3), b"encoder");
     assert_eq!(secpal::label(&policy, 4), b"");
     assert_eq!(secpal::find(&policy, limits::PRINCIPAL, b"Otto"), Some(2));
+    assert_eq!(secpal::find(&policy, limits::PRINCIPAL, b"oTTO"), Some(2));
     assert_eq!(secpal::find(&policy, limits::THING, b"Otto"), None);
     assert_eq!(secpal::find(&policy, limits::DAY, b"Otto"), None);
 }

@@ -4,4 +4,5 @@ pub mod Numbers
 pub mod Sides
 pub mod Holding
 pub mod Marking
+pub mod Names
 pub mod Demands

@@ -1,12 +1,13 @@
 // Labels: the one place of the code that says which are alike, and into which bucket one falls.
 ghost use mathlib.Core.Path.{_≡_};
 ghost use Prim.Native.Nat.{_+_, _<_, _≤_};
+ghost use lib.Dec.{eqb};
 ghost use lib.ListN.{length};
 ghost use Rattle.model.specs.Bytes.{bytesAt};
 ghost use Rattle.model.specs.Readings.{hasLabel};
-ghost use Rattle.model.specs.Values.{alike};
-ghost use Rattle.wire.specs.Budget.{farthest};
+ghost use Rattle.model.specs.Values.{lower, alike};
 ghost use Rattle.labels.specs.Hash.{buckets, hashOf};
+ghost use Rattle.labels.specs.Largest.{largest};
 
 pub const BUCKETS: usize = 251;
 
@@ -17,15 +18,38 @@ pub fn has_label(kind: usize) -> bool
     kind == limits::PRINCIPAL || kind == limits::THING
 }
 
+// "0x41 to 0x5A are read as 0x61 to 0x7A"
+fn lower(b: usize) -> usize
+    ensures { λ r. ⌜ (r ≡ lower b) × (r ≤ b + 32) ⌝ }
+{
+    if b < 0x41 {
+        return b;
+    }
+    if 0x5A < b {
+        return b;
+    }
+    b + 0x20
+}
+
+// Two bytes that agree but for capitals.
+fn same_letter(a: usize, b: usize) -> bool
+    ensures { λ r. ⌜ r ≡ eqb (lower a) (lower b) ⌝ }
+{
+    if a == b {
+        return true;
+    }
+    lower(a) == lower(b)
+}
+
 // The label of n bytes that stands at p of the left slice is alike to that at q of the right one. A byte past the end reads 0.
 pub fn alike(left: &[u8], p: usize, right: &[u8], q: usize, n: usize) -> bool
-    requires { ⌜ (p + n ≤ farthest + farthest) × (q + n ≤ farthest + farthest) ⌝ }
+    requires { ⌜ (p + n ≤ largest) × (q + n ≤ largest) ⌝ }
     ensures { λ r. ⌜ r ≡ alike (bytesAt n (now (left .entry)) p) (bytesAt n (now (right .entry)) q) ⌝ }
 {
     if n == 0 {
         return true;
     }
-    if wire::u8_or(left, p) == wire::u8_or(right, q) {
+    if same_letter(wire::byte_or(left, p), wire::byte_or(right, q)) {
         return alike(left, p + 1, right, q + 1, n - 1);
     }
     false
@@ -39,7 +63,7 @@ pub fn hash(s: &[u8], p: usize, n: usize) -> usize
     let mut h = 0;
     let mut i = 0;
     while i < n {
-        h = (33 * h + wire::byte(s, p + i)) % 65536;
+        h = (33 * h + lower(wire::byte(s, p + i))) % 65536;
         i += 1;
     }
     h % BUCKETS

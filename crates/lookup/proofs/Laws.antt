@@ -1,16 +1,16 @@
 -- Numbers laid into a lent buffer, a search by number, and a label beside one in the policy: one step on, as the code takes it.
 use mathlib.Core.Path.{_≡_, refl, sym, ap, ap₂, _∙_}
-use mathlib.Core.Bool.{Bool, true, false, _&&_}
+use mathlib.Core.Bool.{Bool, true, false}
 use mathlib.Core.List.{List, [], _∷_, _++_}
 use Prim.Native.Nat.{ℕ, zero, suc, _+_, _-_, min, _≤_, _<_}
 use native.Mathlib.Numerals.{sub-one, add-one}
 use native.Mathlib.Omega.{arith}
-use lib.Dec.{eqb}
 use lib.ListN.{length, getD, set, take, drop}
 use lib.Seq.{ext-getD}
 use Rattle.wire.proofs.Reading.{choose-true, choose-false}
 use Rattle.model.specs.Bytes.{byteAt, bytesAt, choose}
-use Rattle.model.specs.Lists.{sameList}
+use Rattle.model.specs.Values.{alike}
+use Rattle.labels.proofs.Laws.{alike-lengths}
 use Rattle.demands.specs.Lookups.{laid, noNumber, firstOf}
 use Rattle.model.proofs.ByteFacts.{bytes-length, bytes-at}
 
@@ -80,16 +80,6 @@ first-same f g i (suc n) h =
 
 -- ---- labels
 
-lengths-differ : (l r : List ℕ) → (length l ≡ length r → ⊥) → false ≡ sameList l r
-lengths-differ [] [] h = absurd (h refl)
-lengths-differ [] (y ∷ r) h = refl
-lengths-differ (x ∷ l) [] h = refl
-lengths-differ (x ∷ l) (y ∷ r) h = go (eqb x y) (lengths-differ l r (λ e. h (ap suc e)))
-  where
-    go : (b : Bool) {c : Bool} → false ≡ c → false ≡ (b && c)
-    go true e = e
-    go false e = refl
-
 all-bytes : (l : List ℕ) → bytesAt (length l) l 0 ≡ l
 all-bytes l =
     ext-getD 0 (bytesAt (length l) l 0) l (bytes-length (length l) l 0)
@@ -97,8 +87,8 @@ all-bytes l =
 
 -- the n bytes at p of the policy, beside a label
 module _ (s label : List ℕ) (p n m : ℕ) (d : m ≡ n) where
-  pub label-same : m ≡ length label → (z : Bool) → z ≡ sameList (bytesAt m s p) (bytesAt m label 0) → z ≡ sameList (bytesAt n s p) label
-  label-same e z h = h ∙ ap₂ (λ (k : ℕ) (l : List ℕ). sameList (bytesAt k s p) l) d (ap (λ (k : ℕ). bytesAt k label 0) e ∙ all-bytes label)
+  pub label-same : m ≡ length label → (z : Bool) → z ≡ alike (bytesAt m s p) (bytesAt m label 0) → z ≡ alike (bytesAt n s p) label
+  label-same e z h = h ∙ ap₂ (λ (k : ℕ) (l : List ℕ). alike (bytesAt k s p) l) d (ap (λ (k : ℕ). bytesAt k label 0) e ∙ all-bytes label)
 
-  pub label-other : (m ≡ length label → ⊥) → false ≡ sameList (bytesAt n s p) label
-  label-other h = lengths-differ (bytesAt n s p) label (λ e. h (d ∙ sym (bytes-length n s p) ∙ e))
+  pub label-other : (m ≡ length label → ⊥) → false ≡ alike (bytesAt n s p) label
+  label-other h = alike-lengths (bytesAt n s p) label (λ e. h (d ∙ sym (bytes-length n s p) ∙ e))

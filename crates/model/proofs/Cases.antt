@@ -10,6 +10,7 @@ use Rattle.model.specs.Bytes.{Reading, got, refused}
 use Rattle.model.specs.Bytes.{u16At, u32At, choose, andThen}
 use Rattle.model.specs.Reader.{sized, times, items, byte, u16, u32, byteIn, rest, list}
 use Rattle.model.specs.Calendar.{daysOfYears, daysOfMonths, dateOf, yearAfter}
+use Rattle.model.specs.Values.{lower}
 use Rattle.model.specs.Layout.{Accepted, policyOf, label, constant, verb, expr, constraint, levels, fact, assertion, constantItem, verbItem}
 use Rattle.model.specs.Layout.{assertionItem, withdrawal, withdrawalItem, asking, parts, node, slice, readPolicy, readRequest, readWithdrawals}
 use Rattle.model.specs.Deciding.{read}
@@ -25,7 +26,7 @@ unfolding
     sized times items byte u16 u32 byteIn rest list
     label constant verb expr constraint levels fact assertion constantItem verbItem assertionItem asking parts node slice readPolicy readRequest
     withdrawal withdrawalItem readWithdrawals
-    daysOfYears daysOfMonths dateOf yearAfter
+    daysOfYears daysOfMonths dateOf yearAfter lower
     sided readSlices decisionOf decision
 rows = (refl, refl, refl, refl)
 
@@ -66,6 +67,7 @@ unfolding
     u16At u32At choose andThen
     sized times items byte u16 u32 byteIn rest list
     label constant verb expr constraint levels fact assertion constantItem verbItem assertionItem asking parts node slice readPolicy readRequest
+    lower
 not-reached t = t
 
 pub beltPair : BeltPair
@@ -73,7 +75,7 @@ unfolding
     u16At u32At choose andThen
     sized times items byte u16 u32 byteIn rest list
     label constant verb expr constraint levels fact assertion constantItem verbItem assertionItem asking parts node slice readPolicy readRequest
-    withdrawal withdrawalItem readWithdrawals
+    withdrawal withdrawalItem readWithdrawals lower
     sided readSlices decisionOf decision
 beltPair = record {
   shorter = read short asked [];

@@ -36,3 +36,5 @@ pub mod Theorems
 pub mod CalendarFacts
 pub mod DaysOfYear
 pub mod Years
+pub mod AlikeFacts
+pub mod Alike

@@ -39,4 +39,5 @@ pub mod Entries
 -- What is proved.
 pub mod Theorems
 pub mod Years
+pub mod Alike
 pub mod Cases

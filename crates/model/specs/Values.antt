@@ -1,6 +1,6 @@
 -- Bindings, values and constraints.
 use mathlib.Core.List.{List, [], _∷_, _++_, map}
-use mathlib.Core.Bool.{Bool, true, false, _&&_, not}
+use mathlib.Core.Bool.{Bool, true, false, cond, _&&_, not}
 use Prim.Native.Nat.{ℕ, zero, suc, _+_}
 use lib.ListN.{getD}
 use lib.Dec.{eqb, leb}
@@ -30,12 +30,21 @@ bound θ today = unbound
 
 -- ---- labels: the one place that says which are alike, and which begins with which
 
+-- "0x41 to 0x5A are read as 0x61 to 0x7A"
+unfoldable pub lower : ℕ → ℕ
+lower b = cond (leb 0x41 b && leb b 0x5A) (b + 0x20) b
+
+-- a label in small letters; nothing hands it out
+abbrev pub lowered : List ℕ → List ℕ
+lowered l = map lower l
+
+-- "Two labels are now alike if they agree after" that
 abbrev pub alike : List ℕ → List ℕ → Bool
-alike l r = sameList l r
+alike l r = sameList (lowered l) (lowered r)
 
 -- the first begins with the second
 abbrev pub begins : List ℕ → List ℕ → Bool
-begins l r = front r l
+begins l r = front (lowered r) (lowered l)
 
 -- ---- constraints
 

@@ -1,15 +1,15 @@
 -- What an item of right form is sure to have, and when two constants or two verbs are alike.
 use mathlib.Core.Path.{_≡_, refl, sym, _∙_, ap}
 use mathlib.Core.Bool.{Bool, true, false, _&&_}
-use mathlib.Core.List.{List, [], _∷_}
-use Prim.Native.Nat.{ℕ, zero, suc, _+_, _-_, _<_, _≤_}
+use mathlib.Core.List.{List, []}
+use Prim.Native.Nat.{ℕ, _+_, _-_, _≤_}
 use native.Mathlib.Omega.{arith}
 use lib.Dec.{eqb, leb, ltb}
 use lib.ListN.{length}
 use borrow.Author.Tests.{leb-true, ltb-true, eqb-true, eq-eqb, ne-eqb}
 use Rattle.wire.proofs.Reading.{both-first, both-second, choose-true, choose-false, and-yes, and-no}
 use Rattle.model.specs.Bytes.{byteAt, u32At, bytesAt, choose, both}
-use Rattle.model.specs.Lists.{sameList}
+use Rattle.model.specs.Values.{alike}
 use Rattle.model.specs.Readings.{itemEnd, hasLabel, constantAt, verbAt}
 use Rattle.model.specs.Forms.{labelForm, itemThere, numberForm, valueForm, constantForm, signatureForm, verbForm}
 use Rattle.model.specs.Policies.{alikeConstants, alikeVerbs}
@@ -46,25 +46,6 @@ module _ (s : List ℕ) (at : ℕ) where
       let n = leb-true 1 (byteAt s at - 1 - byteAt s (at + 1)) (both-first _ _ (both-second _ _ l)) in
       omega arith
 
--- ---- labels
-
-longer : (m n : ℕ) (s : List ℕ) (p q : ℕ) → (m ≡ n → ⊥) → sameList (bytesAt m s p) (bytesAt n s q) ≡ false
-unfolding bytesAt
-longer zero zero s p q h = absurd (h refl)
-longer zero (suc n) s p q h = refl
-longer (suc m) zero s p q h = refl
-longer (suc m) (suc n) s p q h = go (eqb (byteAt s p) (byteAt s q)) (longer m n s (p + 1) (q + 1) (λ e. h (ap suc e)))
-  where
-    go : (b : Bool) {c : Bool} → c ≡ false → (b && c) ≡ false
-    go true e = e
-    go false e = refl
-
-pub labels-same : (s : List ℕ) (m n p q : ℕ) (z : Bool) → m ≡ n → z ≡ sameList (bytesAt m s p) (bytesAt m s q) → z ≡ sameList (bytesAt m s p) (bytesAt n s q)
-labels-same s m n p q z e h = rw (← e) h
-
-pub labels-differ : (s : List ℕ) (m n p q : ℕ) → (m ≡ n → ⊥) → false ≡ sameList (bytesAt m s p) (bytesAt n s q)
-labels-differ s m n p q h = sym (longer m n s p q h)
-
 -- ---- "alike in kind and value"
 
 numbers-none : (b : Bool) → (b && true) ≡ b
@@ -72,12 +53,12 @@ numbers-none true = refl
 numbers-none false = refl
 
 labelled : (b c : Bool) (l m : List ℕ) (x y : ℕ) → b ≡ true → c ≡ true
-    → (sameList (choose b l []) (choose c m []) && eqb (choose b 0 x) (choose c 0 y)) ≡ sameList l m
+    → (alike (choose b l []) (choose c m []) && eqb (choose b 0 x) (choose c 0 y)) ≡ alike l m
 unfolding choose
-labelled b c l m x y d e = rw (d, e) (numbers-none (sameList l m))
+labelled b c l m x y d e = rw (d, e) (numbers-none (alike l m))
 
 numbered : (b c : Bool) (l m : List ℕ) (x y : ℕ) → b ≡ false → c ≡ false
-    → (sameList (choose b l []) (choose c m []) && eqb (choose b 0 x) (choose c 0 y)) ≡ eqb x y
+    → (alike (choose b l []) (choose c m []) && eqb (choose b 0 x) (choose c 0 y)) ≡ eqb x y
 unfolding choose
 numbered b c l m x y d e = rw (d, e)
 
@@ -87,7 +68,7 @@ module _ (s : List ℕ) (q p : ℕ) where
   kinds-differ h = and-no _ _ false (ne-eqb _ _ h) refl
 
   pub alike-labels : (z : Bool) → byteAt s (q + 1) ≡ byteAt s (p + 1) → hasLabel (byteAt s (q + 1)) ≡ true
-      → z ≡ sameList (bytesAt (byteAt s q - 1) s (q + 2)) (bytesAt (byteAt s p - 1) s (p + 2)) → z ≡ alikeConstants (constantAt s q) (constantAt s p)
+      → z ≡ alike (bytesAt (byteAt s q - 1) s (q + 2)) (bytesAt (byteAt s p - 1) s (p + 2)) → z ≡ alikeConstants (constantAt s q) (constantAt s p)
   unfolding constantAt
   alike-labels z e k h =
       and-yes (eqb (byteAt s (q + 1)) (byteAt s (p + 1))) _ z (eq-eqb _ _ e)
@@ -101,7 +82,7 @@ module _ (s : List ℕ) (q p : ℕ) where
       (h ∙ sym (numbered (hasLabel (byteAt s (q + 1))) (hasLabel (byteAt s (p + 1))) _ _ _ _ k (ap hasLabel (sym e) ∙ k)))
 
   pub verbs-alike : (z : Bool)
-      → z ≡ sameList (bytesAt (byteAt s q - 1 - byteAt s (q + 1)) s (q + 2 + byteAt s (q + 1)))
+      → z ≡ alike (bytesAt (byteAt s q - 1 - byteAt s (q + 1)) s (q + 2 + byteAt s (q + 1)))
       (bytesAt (byteAt s p - 1 - byteAt s (p + 1)) s (p + 2 + byteAt s (p + 1)))
       → z ≡ alikeVerbs (verbAt s q) (verbAt s p)
   unfolding verbAt

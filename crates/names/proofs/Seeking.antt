@@ -11,7 +11,7 @@ use lib.ListN.{length, getD, set, replicate, length-set, length-map, length-repl
 use lib.Seq.{getD-set-same, getD-set-other}
 use borrow.Author.Tests.{eqb-true}
 use Rattle.wire.proofs.Reading.{or-yes, or-no, choose-true, choose-false}
-use Rattle.model.specs.Lists.{any, sameList}
+use Rattle.model.specs.Lists.{any}
 use Rattle.model.specs.Syntax.{Constant, Verb}
 use Rattle.model.specs.Bytes.{byteAt, u32At, bytesAt, choose}
 use Rattle.model.specs.Readings.{itemEnd, endsBy, hasLabel, constantAt, verbAt}
@@ -198,16 +198,15 @@ pub verbs-apart : (v w : Verb) → (verbBucket w ≡ verbBucket v → ⊥) → a
 verbs-apart v w h = not-true _ (λ e. h (sym (alike-hash (v .label) (w .label) e)))
 
 pub constant-bucket : (c : Constant) → constantBucket c < buckets
-unfolding hashOf choose
+unfolding choose
 constant-bucket c = go (hasLabel (c .kind))
   where
     go : (b : Bool) → choose b (hashOf (c .label)) (c .number % buckets) < buckets
-    go true = hash-small 0 (c .label)
+    go true = hash-small (c .label)
     go false = omega arith
 
 pub verb-bucket : (v : Verb) → verbBucket v < buckets
-unfolding hashOf
-verb-bucket v = hash-small 0 (v .label)
+verb-bucket v = hash-small (v .label)
 
 -- ---- the bucket of what stands at an offset, as the code finds it
 

@@ -8,7 +8,8 @@ ghost use lib.ListN.{length, getD, set};
 ghost use Rattle.model.specs.Bytes.{byteAt, bytesAt};
 ghost use Rattle.wire.specs.Budget.{farthest};
 ghost use Rattle.model.specs.Limits.{maxConstants};
-ghost use Rattle.model.specs.Lists.{any, sameList};
+ghost use Rattle.model.specs.Lists.{any};
+ghost use Rattle.model.specs.Values as values;
 ghost use Rattle.model.specs.Readings.{itemEnd, constantAt, endsBy};
 ghost use Rattle.model.specs.Forms.{itemThere, numberForm, valueForm, constantForm};
 ghost use Rattle.model.specs.Policies.{contents, itemsFrom, listAt, alikeConstants, constantItem};
@@ -66,15 +67,15 @@ fn constant_form(s: &[u8], at: usize) -> bool
     false
 }
 
-// The labels of the constants at q and at p, both of a kind that has one.
+// The labels of the constants at q and at p, both of a kind that has one, are alike.
 fn same_label(s: &[u8], q: usize, p: usize) -> bool
     requires { ⌜ (p < q) × (itemEnd (now s) q ≤ length (now s)) × (2 ≤ byteAt (now s) q) ⌝ }
-    ensures { λ r. ⌜ r ≡ sameList (bytesAt (byteAt (now (s .entry)) q - 1) (now (s .entry)) (q + 2))
+    ensures { λ r. ⌜ r ≡ values.alike (bytesAt (byteAt (now (s .entry)) q - 1) (now (s .entry)) (q + 2))
         (bytesAt (byteAt (now (s .entry)) p - 1) (now (s .entry)) (p + 2)) ⌝ }
 {
     let n = wire::byte(s, q);
     if n == wire::byte(s, p) {
-        return wire::same_bytes(s, n - 1, q + 2, p + 2);
+        return labels::alike(s, q + 2, s, p + 2, n - 1);
     }
     false
 }

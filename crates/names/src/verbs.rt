@@ -71,7 +71,7 @@ fn verb_form(s: &[u8], at: usize) -> bool
     false
 }
 
-// The verb at q, of right form, has the label of that at p before it.
+// The label of the verb at q, of right form, is alike to that of the verb at p before it.
 fn alike(s: &[u8], q: usize, p: usize) -> bool
     requires { ⌜ (itemEnd (now s) p ≤ q) × (verbForm (now s) q ≡ true) ⌝ }
     ensures { λ r. ⌜ r ≡ alikeVerbs (verbAt (now (s .entry)) q) (verbAt (now (s .entry)) p) ⌝ }
@@ -80,7 +80,7 @@ fn alike(s: &[u8], q: usize, p: usize) -> bool
     let n = wire::byte(s, q) - 1 - a;
     let b = wire::byte(s, p + 1);
     if n + 1 + b == wire::byte(s, p) {
-        return wire::same_bytes(s, n, q + 2 + a, p + 2 + b);
+        return labels::alike(s, q + 2 + a, s, p + 2 + b, n);
     }
     false
 }
@@ -94,7 +94,7 @@ fn bucket(s: &[u8], at: usize) -> usize
     labels::hash(s, at + 2 + a, wire::byte(s, at) - 1 - a)
 }
 
-// One of a chain's verbs, from entry i on, has the label of that at q, which stands after them. Entry i stands at offset i - 1 of `ats`.
+// One of a chain's verbs, from entry i on, has a label alike to that of the verb at q, which stands after them. Entry i stands at offset i - 1 of `ats`.
 fn chain_has(s: &[u8], q: usize, ats: &[usize], links: &[u16], i: usize) -> bool
     requires { ⌜ (verbForm (now s) q ≡ true) × Walkable (now s) (now ats) (now links) q i ⌝ }
     ensures { λ r. ⌜ r ≡ any (λ (j : ℕ). alikeVerbs (verbAt (now (s .entry)) q) (verbAt (now (s .entry)) (getD (now (ats .entry)) (j - 1) 0)))
@@ -109,7 +109,7 @@ fn chain_has(s: &[u8], q: usize, ats: &[usize], links: &[u16], i: usize) -> bool
     chain_has(s, q, ats, links, chains::older(links, labels::BUCKETS, i))
 }
 
-// One of the verbs before has the label of that at q, which stands after them.
+// One of the verbs before has a label alike to that of the verb at q, which stands after them.
 fn seen(s: &[u8], q: usize, ats: &[usize], links: &[u16]) -> bool
     requires { ⌜ (verbForm (now s) q ≡ true)
         × ((p k : ℕ) × ListedVerbs (now s) p k (now ats) (now links) × (endsBy (itemEnd (now s)) k p ≤ q)) ⌝ }

@@ -3,7 +3,7 @@ ghost use mathlib.Core.Path.{_≡_};
 ghost use Prim.Native.Nat.{_+_, _<_, _≤_};
 ghost use lib.ListN.{length};
 ghost use Rattle.model.specs.Bytes.{byteAt, u16At, u32At, bytesAt};
-ghost use Rattle.model.specs.Lists.{all, sameList};
+ghost use Rattle.model.specs.Lists.{all};
 ghost use Rattle.model.specs.Forms.{labelByte, labelForm};
 ghost use Rattle.wire.specs.Budget.{farthest};
 
@@ -99,20 +99,6 @@ pub fn label_form(s: &[u8], p: usize, n: usize) -> bool
         if n <= limits::LABEL {
             return label_bytes(s, p, n);
         }
-    }
-    false
-}
-
-// n bytes from p on are those from q on.
-pub fn same_bytes(s: &[u8], n: usize, p: usize, q: usize) -> bool
-    requires { ⌜ (p + n ≤ length (now s)) × (q + n ≤ length (now s)) ⌝ }
-    ensures { λ r. ⌜ r ≡ sameList (bytesAt n (now (s .entry)) p) (bytesAt n (now (s .entry)) q) ⌝ }
-{
-    if n == 0 {
-        return true;
-    }
-    if s[p] == s[q] {
-        return same_bytes(s, n - 1, p + 1, q + 1);
     }
     false
 }

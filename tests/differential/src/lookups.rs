@@ -79,14 +79,14 @@ fn wrong_finds(policy: &[u8], accepted: &Option<Policy>) -> Option<String> {
     let none = vec![];
     let constants = accepted.as_ref().map_or(&none, |p| &p.constants);
     let number = |kind: u8, label: &[u8]| {
-        let wanted = Value::Label(label.to_vec());
+        let wanted = Value::Label(label.to_ascii_lowercase());
         constants.iter().position(|(k, value)| *k == kind && *value == wanted).map(|number| number as u32)
     };
-    let mut labels: Vec<&[u8]> = vec![b"", b"a", b"no such label", &[0xFF]];
-    labels.extend(
-        constants.iter().filter_map(|(_, value)| if let Value::Label(label) = value { Some(label.as_slice()) } else { None }).take(20),
-    );
-    for label in labels {
+    let mut labels: Vec<Vec<u8>> = [&b""[..], b"a", b"no such label", &[0xFF]].map(<[u8]>::to_vec).to_vec();
+    let some = constants.iter().filter_map(|(_, value)| if let Value::Label(label) = value { Some(label) } else { None }).take(20);
+    // in small letters, in capitals, and with `@` for a backquote
+    labels.extend(some.flat_map(|l| [l.clone(), l.to_ascii_uppercase(), l.iter().map(|b| if *b == b'`' { b'@' } else { *b }).collect()]));
+    for label in &labels {
         for kind in 0..6 {
             let labelled = kind == limits::PRINCIPAL || kind == limits::THING;
             let expected = if labelled { number(kind, label) } else { None };

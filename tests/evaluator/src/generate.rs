@@ -196,9 +196,15 @@ fn assertion(r: &mut Random, n: &mut Names) -> Vec<u8> {
     item
 }
 
+/// Letters in both cases, and bytes beside the capitals and the small letters.
 fn label(r: &mut Random) -> Vec<u8> {
     let n = if r.wild(20) { r.range(30, 33) } else { r.range(1, 4) };
-    (0..n).map(|_| r.pick(b"abAB!~")).collect()
+    (0..n).map(|_| r.pick(b"abzABZ@[`{!~")).collect()
+}
+
+/// The same label but for capitals.
+fn other_case(r: &mut Random, label: &[u8]) -> Vec<u8> {
+    label.iter().map(|b| if r.once_in(2) { b.to_ascii_uppercase() } else { b.to_ascii_lowercase() }).collect()
 }
 
 /// Days, with two more each, at which a year on may be 365 or 366 days on: the first and the last ones, and the turn of February in leap years and beside them.
@@ -238,7 +244,15 @@ fn policy(r: &mut Random) -> (Vec<u8>, Names) {
         if wanted > 20 {
             c = [vec![PRINCIPAL], format!("p{i}").into_bytes()].concat();
         }
-        if !constants.contains(&c) || r.wild(4) {
+        let labelled = c[0] == PRINCIPAL || c[0] == THING;
+        // the label of an earlier constant of the other kind, but for capitals
+        if labelled && r.once_in(6) {
+            if let Some(earlier) = constants.iter().find(|e| e[0] != c[0] && (e[0] == PRINCIPAL || e[0] == THING)) {
+                c = [vec![c[0]], other_case(r, &earlier[1..])].concat();
+            }
+        }
+        let alike = |e: &Vec<u8>| *e == c || (labelled && e.eq_ignore_ascii_case(&c));
+        if !constants.iter().any(alike) || r.wild(4) {
             n.kinds.push(c[0]);
             constants.push(c);
         }
@@ -255,7 +269,8 @@ fn policy(r: &mut Random) -> (Vec<u8>, Names) {
         let kinds: Vec<u8> = (0..arity).map(|_| r.pick(&[PRINCIPAL, THING, DAY, QUANTITY])).collect();
         let mut v = vec![arity as u8];
         v.extend(&kinds);
-        v.extend(format!("v{}", if r.wild(20) { 0 } else { i }).into_bytes());
+        let name = format!("verb{}", if r.wild(20) { 0 } else { i });
+        v.extend(other_case(r, name.as_bytes()));
         body.push(v.len() as u8);
         body.extend(v);
         n.verbs.push(kinds);

@@ -48,6 +48,7 @@ pub struct Assertion {
 
 #[derive(Debug, Clone, PartialEq, Eq)]
 pub enum Value {
+    /// in small letters, so that labels that are alike are equal
     Label(Vec<u8>),
     Number(u32),
 }
@@ -134,7 +135,7 @@ impl Bytes<'_> {
         if label.is_empty() || label.len() > 32 || label.iter().any(|b| *b < 0x21 || *b > 0x7e) {
             return Err(Fault::Form);
         }
-        Ok(label)
+        Ok(label.to_ascii_lowercase())
     }
 
     fn expr(&mut self) -> Result<Expr, Fault> {
