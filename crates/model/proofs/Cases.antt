@@ -18,9 +18,9 @@ use Rattle.model.specs.Decision.{sided, readSlices, decisionOf, decision
 use Rattle.model.specs.Theorems.{done, keeps, adds}
 use Rattle.model.proofs.ListFacts.{member-in}
 use Rattle.model.proofs.ReachFacts.{reach-in}
-use Rattle.model.specs.Cases.{P, Q, longerP, Belt, Turnings, Readings, Withdrawing, BeltPair}
+use Rattle.model.specs.Cases.{P, Q, longerP, Belt, Turnings, Readings, Withdrawing, Inheriting, BeltPair}
 
-rows : Belt × Turnings × Readings × Withdrawing
+rows : Belt × Turnings × Readings × Withdrawing × Inheriting
 unfolding
     u16At u32At choose andThen
     sized times items byte u16 u32 byteIn rest list
@@ -28,7 +28,7 @@ unfolding
     withdrawal withdrawalItem readWithdrawals linked linkItem readHierarchy
     daysOfYears daysOfMonths dateOf yearAfter
     sided readSlices decisionOf decision
-rows = (refl, refl, refl, refl)
+rows = (refl, refl, refl, refl, (refl, refl))
 
 pub belt : Belt
 belt = rows .0
@@ -41,6 +41,9 @@ readings = rows .2
 
 pub withdrawing : Withdrawing
 withdrawing = rows .3
+
+pub inheriting : Inheriting
+inheriting = rows .4
 
 -- ---- demand 3 on the belt
 
