@@ -1,5 +1,5 @@
--- The hierarchy: a fact gives, on its places, the facts that it covers, and nothing else. Each of its three parameters is replaced by one of its family; a place
--- past the verb's parameters has 0, which no entry is about.
+-- The hierarchy: a fact gives, on its places, the facts that it covers, and nothing else. Each of its three parameters is replaced by one of its family; a
+-- place past the verb's parameters has 0, which no entry is about.
 use mathlib.Core.Path.{_≡_, refl, sym, ap, subst, _∙_}
 use mathlib.Core.Logic.{_⊎_, inl, inr, ⊎-elim}
 use mathlib.Core.Bool.{Bool, true, false, _||_, not, true≢false}

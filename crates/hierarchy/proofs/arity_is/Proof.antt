@@ -1,3 +1,4 @@
+-- The verb is not 0, the position is not 0, and the verb has it.
 use borrow.Author.Needs.{needs}
 use Rattle.hierarchy.proofs.arity_is.Statement.{statement}
 use Rattle.hierarchy.proofs.arity_is.Tie as tie

@@ -1,3 +1,4 @@
+-- A verb that is there, then the whole entry.
 use borrow.Author.Needs.{needs}
 use Rattle.hierarchy.proofs.entry.Statement.{statement}
 use Rattle.hierarchy.proofs.entry.Tie as tie

@@ -1,3 +1,4 @@
+-- The position, then the kinds.
 use borrow.Author.Needs.{needs}
 use Rattle.hierarchy.proofs.fits.Statement.{statement}
 use Rattle.hierarchy.proofs.fits.Tie as tie

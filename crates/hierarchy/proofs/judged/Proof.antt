@@ -1,3 +1,4 @@
+-- Fit, then apart.
 use borrow.Author.Needs.{needs}
 use Rattle.hierarchy.proofs.judged.Statement.{statement}
 use Rattle.hierarchy.proofs.judged.Tie as tie

@@ -1,3 +1,4 @@
+-- Parent, then child.
 use borrow.Author.Needs.{needs}
 use Rattle.hierarchy.proofs.kinds_are.Statement.{statement}
 use Rattle.hierarchy.proofs.kinds_are.Tie as tie

@@ -31,7 +31,8 @@ returns-2 : tie.Need-returns-2
 returns-2 c =
     let test = c .before in
     let version = test .before .before in (
-      means-length _ _ _ _ (via-not′ (version .before .version-there .ensures) (version .if1 .left)) (via-not (test .before .length-right .ensures .0) (test .if2 .taken))
+      means-length _ _ _ _ (via-not′ (version .before .version-there .ensures) (version .if1 .left))
+          (via-not (test .before .length-right .ensures .0) (test .if2 .taken))
           (c .refused2 .ensures),
       λ e. not-accepted _ 2 1 (c .refused2 .ensures) (λ z. omega arith) e,
     )
@@ -44,7 +45,8 @@ returns-3 c =
     let test = c .before in
     let long = test .before in
     let version = long .before in (
-      means-headed _ _ _ _ (via-not′ (version .before .version-there .ensures) (version .if1 .left)) (via-not′ (long .length-right .ensures .0) (test .if2 .left))
+      means-headed _ _ _ _ (via-not′ (version .before .version-there .ensures) (version .if1 .left))
+          (via-not′ (long .length-right .ensures .0) (test .if2 .left))
           (c .headed .ensures),
       λ e. long .length-right .ensures .1 (not-false _ (test .if2 .left)),
     )
