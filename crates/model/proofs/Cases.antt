@@ -17,9 +17,9 @@ use Rattle.model.specs.Decision.{sided, readSlices, decisionOf, decision
 use Rattle.model.specs.Theorems.{done, keeps, adds}
 use Rattle.model.proofs.ListFacts.{member-in}
 use Rattle.model.proofs.ReachFacts.{reach-in}
-use Rattle.model.specs.Cases.{P, Q, longerP, Belt, Turnings, Readings, Withdrawing, BeltPair}
+use Rattle.model.specs.Cases.{P, Q, longerP, Belt, Turnings, Readings, Withdrawing, StandIns, BeltPair}
 
-rows : Belt × Turnings × Readings × Withdrawing
+rows : Belt × Turnings × Readings × Withdrawing × StandIns
 unfolding
     u16At u32At choose andThen
     sized times items byte u16 u32 byteIn rest list
@@ -27,7 +27,7 @@ unfolding
     withdrawal withdrawalItem readWithdrawals
     daysOfYears daysOfMonths dateOf yearAfter
     sided readSlices decisionOf decision
-rows = (refl, refl, refl, refl)
+rows = (refl, refl, refl, refl, refl)
 
 pub belt : Belt
 belt = rows .0
@@ -40,6 +40,9 @@ readings = rows .2
 
 pub withdrawing : Withdrawing
 withdrawing = rows .3
+
+pub standIns : StandIns
+standIns = rows .4
 
 -- ---- demand 3 on the belt
 

@@ -8,7 +8,7 @@ use native.Mathlib.Omega.{arith}
 use lib.ListN.{length, getD, length-map, length-append}
 use lib.Dec.{T, eqb, ltb, eqb→eq}
 use borrow.Author.Tests.{ltb-false}
-use Rattle.model.specs.Limits.{version, principal, maxConstants, headerBytes}
+use Rattle.model.specs.Limits.{policyVersions, principal, maxConstants, headerBytes}
 use Rattle.model.specs.Lists.{all}
 use Rattle.model.specs.Syntax.{Expr, con, var, today, Fact, flat, canSay, subject, Assertion, Constant, Verb, Policy}
 use Rattle.model.specs.Kinds.{Demands, kindAt, places, demandsOf, inPlace, comparable, meets, kindsFor, choicesOf, fitting, fitsAssertion}
@@ -151,7 +151,7 @@ pub accepted-fine : (s : List ℕ) (A : Accepted) (e : ℕ) → readPolicy s ≡
     → (a : Assertion) → List·Memᴰ a (policyOf A .assertions) → Fine (policyOf A .constants) (policyOf A .verbs) a
 unfolding computedPolicy constantsFrom verbsFrom assertionsFrom
 accepted-fine s A e r =
-    let c = andThen-got _ _ A e (headed-got version s _ A e (sym (policy-is s) ∙ r)) in
+    let c = andThen-got _ _ A e (headed-got policyVersions s _ A e (sym (policy-is s) ∙ r)) in
     let v = andThen-got _ _ A e (c .3) in
     let a = andThen-got _ _ A e (v .3) in
     let q = ended-got s _ A (a .1) e (a .3) in
@@ -167,7 +167,7 @@ policy-fine policy P h = subst (λ (P : Policy). (a : Assertion) → List·Mem�
 pub accepted-count : (s : List ℕ) (A : Accepted) (e : ℕ) → readPolicy s ≡ got A e → length (policyOf A .constants) ≤ 255
 unfolding computedPolicy constantsFrom verbsFrom assertionsFrom
 accepted-count s A e r =
-    let c = andThen-got _ _ A e (headed-got version s _ A e (sym (policy-is s) ∙ r)) in
+    let c = andThen-got _ _ A e (headed-got policyVersions s _ A e (sym (policy-is s) ∙ r)) in
     let v = andThen-got _ _ A e (c .3) in
     let a = andThen-got _ _ A e (v .3) in
     let q = ended-got s _ A (a .1) e (a .3) in

@@ -175,7 +175,8 @@ computedReach W 𝒜 asked = (
 
 -- ---- added assertions
 
--- what is read with another policy in the first one's place: where constants and verbs are the same, so are the world, the request and the withdrawals
+-- what is read with another policy in the first one's place: where constants and verbs are the same, so are the request and the withdrawals, and with the
+-- version the world
 abbrev another : Read → Policy → Read
 another R L = read L (R .request) (R .withdrawals)
 
@@ -189,8 +190,8 @@ module _ (R : Read) (L : Policy) (cs : L .constants ≡ R .policy .constants) (v
         withdrawnAs = (k .withdrawnAs .0, rw cs (k .withdrawnAs .1));
       })
 
-  same-world : worldIn (another R L) ≡ worldIn R
-  same-world = λ i. record { constants = cs i; verbs = vs i; today = R .request .today }
+  same-world : L .version ≡ R .policy .version → worldIn (another R L) ≡ worldIn R
+  same-world v = λ i. record { version = v i; constants = cs i; verbs = vs i; today = R .request .today }
 
 -- reports tell nothing of the slices
 same-buffers : (o : Outcome) (l : Lent) (s : Slices) → reported o (record { slices = s; factBuffer = l .factBuffer; answerBuffer = l .answerBuffer }) ≡ reported o l
@@ -203,7 +204,7 @@ module _ {X : Assertion → Type 0} (R : Read) (L : Policy) (x : Longer X (R .po
   longer-inputs l longer h a = with-policy R L (x .constants) (x .verbs) l longer h a
 
   longer-world : worldIn (another R L) ≡ worldIn R
-  longer-world = same-world R L (x .constants) (x .verbs)
+  longer-world = same-world R L (x .constants) (x .verbs) (x .version)
 
   -- what is left of the longer policy's list, and which of it count
   abbrev longerLeft : List Assertion
@@ -378,7 +379,7 @@ withdrawnIsAbsent l other R L h a e =
     inputs = nothingWithdrawn (l′ .slices) L (R .request) refl a asked .0
 
     world : worldIn R′ ≡ worldIn R
-    world = same-world R L cs vs
+    world = same-world R L cs vs (ap (λ (P : Policy). P .version) e)
 
     lefts : leftIn R′ ≡ leftIn R
     lefts = left-all (worldIn R′) (L .assertions) ∙ ap (λ (P : Policy). P .assertions) e
@@ -418,7 +419,7 @@ serialsAside l other R L h a none e =
 
     same : decide (another R L) c r ≡ decide R c r
     same =
-        (λ i. by (same-world R L cs vs i) (none i) (L .assertions))
+        (λ i. by (same-world R L cs vs (ap (λ (P : Policy). P .version) e) i) (none i) (L .assertions))
         ∙ (all-left (L .assertions)
         ∙ (serials-aside W (L .assertions) (R .policy .assertions) (issuers n W) n c r (ap (λ (P : Policy). P .assertions) e)
         ∙ (sym (all-left (R .policy .assertions)) ∙ (λ i. by W (sym none i) (R .policy .assertions)))))

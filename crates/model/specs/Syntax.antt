@@ -76,12 +76,13 @@ pub data Said : Type 0 where
 
 -- what gives an assertion its meaning: the policy without its assertions, and today
 pub record World : Type 0 where
+  pub version : ℕ
   pub constants : List Constant
   pub verbs : List Verb
   pub today : ℕ
 
 abbrev pub worldOf : Policy → Request → World
-worldOf P q = record { constants = P .constants; verbs = P .verbs; today = q .today }
+worldOf P q = record { version = P .version; constants = P .constants; verbs = P .verbs; today = q .today }
 
 -- what was read of the lent slices (`Decision.Slices`)
 pub record Read : Type 0 where
