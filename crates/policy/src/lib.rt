@@ -124,7 +124,7 @@ fn headed(s: &[u8]) -> Index
 pub fn read(s: &[u8]) -> Index
     ensures { λ r. ⌜ r ≡ handedOut (readPolicy (now (s .entry))) ⌝ }
 {
-    if !slices::version_there(s, limits::VERSION) {
+    if !slices::version_there(s, limits::POLICY_VERSIONS) {
         return refused(1, 0);
     }
     if !slices::length_right(s) {
