@@ -1,2 +1,3 @@
 pub mod AssertionLaws
 pub mod AssertionFacts
+pub mod Stated

@@ -6,10 +6,10 @@ use lib.ListN.{length}
 use lib.Dec.{ltb, leb, eqb}
 use Rattle.model.specs.Limits.{maxAssertions, maxBody, maxConstraints, principal}
 use Rattle.model.specs.Lists.{all, each}
-use Rattle.model.specs.Syntax.{varsOf, varsIn, varsTest}
+use Rattle.model.specs.Syntax.{Verb, Assertion, varsOf, varsIn, varsTest}
 use Rattle.model.specs.Safety.{isFlat}
 use Rattle.model.specs.Bytes.{byteAt, u16At, choose, both}
-use Rattle.model.specs.Readings.{exprAt, constraintsAt, assertionEnd}
+use Rattle.model.specs.Readings.{exprAt, factAt, factEnd, factsAt, factsEnd, constraintsAt, assertionEnd}
 use Rattle.model.specs.Forms.{operatorsForm}
 use Rattle.kinds.specs.Cells.{Ask, feed, nothing}
 use Rattle.phrases.specs.declared.Form.{Form}
@@ -19,6 +19,27 @@ use Rattle.phrases.specs.Marks.{none, marked, within}
 use Rattle.slices.specs.declared.Step.{Step}
 use Rattle.slices.specs.declared.Step.the-variants.{Next, Refused}
 use Rattle.slices.specs.Steps.{thenStep, countRight, endedAt}
+
+-- "2-byte length .., 4-byte serial .., issuer, head fact": where the issuer of the assertion at an offset stands
+unfoldable pub issuerAt : ℕ → ℕ
+issuerAt at = at + 6
+
+-- what an assertion says from its issuer on, wherever that stands
+module _ (vs : List Verb) (s : List ℕ) where
+  unfoldable pub bodyFrom : ℕ → ℕ
+  bodyFrom from = factEnd vs s (from + 2)
+
+  unfoldable pub testsFrom : ℕ → ℕ
+  testsFrom from = factsEnd vs (byteAt s (bodyFrom from)) s (bodyFrom from + 1)
+
+  unfoldable pub statedAt : ℕ → ℕ → Assertion
+  statedAt serial from = record {
+    serial = serial;
+    issuer = u16At s from;
+    head = factAt vs s (from + 2);
+    body = factsAt vs (byteAt s (bodyFrom from)) s (bodyFrom from + 1);
+    tests = constraintsAt (byteAt s (testsFrom from)) s (testsFrom from + 1);
+  }
 
 -- ---- form, in an item that ends at e
 

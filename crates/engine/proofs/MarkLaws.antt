@@ -8,23 +8,14 @@ use native.Mathlib.Omega.{arith}
 use lib.ListN.{length, getD, set, take, drop, length-map}
 use Rattle.model.specs.Lists.{member}
 use Rattle.model.specs.Syntax as syntax
-use Rattle.model.specs.Syntax.{Assertion, Policy, World, worldOf}
+use Rattle.model.specs.Syntax.{Policy}
 use Rattle.model.specs.Bytes.{byteAt, bytesAt}
-use Rattle.model.specs.Readings.{assertionAt}
-use Rattle.model.specs.Requests.{issuers}
-use Rattle.model.specs.Reached.{reach}
-use Rattle.model.specs.Limits.{maxAssertions}
-use Rattle.model.specs.Policies.{Item, Accepted, policyOf, contents, offsets}
+use Rattle.model.specs.Policies.{Accepted, policyOf}
 use Rattle.model.specs.Deciding.{read}
 use Rattle.model.specs.Decision.{Slices, slices, Taken, refusedOn, readSlices}
-use Rattle.model.proofs.ReadFacts.{accepted-fine}
 use Rattle.demands.specs.Lookups.{reachOf, marksFrom, reached, reachedBy, whoseWords}
-use Rattle.policy.specs.Index as policies
-use Rattle.policy.specs.Index.{held, kindTable, indexOf}
 use Rattle.policy.specs.declared.Index.{Index}
-use Rattle.reach.specs.Marks.{Marks, IsReach, Reads, assertionsAt}
-use Rattle.reach.proofs.Counting.{accepted-reads}
-use Rattle.program.proofs.Accepted.{accepted-known, held-front}
+use Rattle.reach.specs.Marks.{Marks}
 use Rattle.engine.specs.Accepts.{Accepts}
 use Rattle.engine.proofs.Accepting.{inputs}
 use Rattle.model.proofs.ByteFacts.{bytes-length, bytes-at}
@@ -63,44 +54,12 @@ unfolding bytesAt marksFrom
 bytes-marks l m h zero i = refl
 bytes-marks l m h (suc n) i = ap₂ (λ (b : ℕ) (t : List ℕ). b ∷ t) (h i) (ap (bytesAt n m) (add-one i) ∙ bytes-marks l m h n (suc i))
 
--- ---- the reach of an accepted request
+-- ---- what the call tells
 
 module _ {policy request : List ℕ} {x : Index} {A : Accepted} {q : syntax.Request} (a : Accepts policy request x A q) where
   abbrev P : Policy
   P = policyOf A
 
-  abbrev W : World
-  W = worldOf P q
-
-  abbrev ats : List ℕ
-  ats = held maxAssertions (offsets (A .assertions))
-
-  is : indexOf A ≡ x
-  unfolding policies.handedOut
-  is = sym (a .index ∙ ap policies.handedOut (a .read))
-
-  front : take (length (A .assertions)) ats ≡ offsets (A .assertions)
-  front =
-      ap (λ (n : ℕ). take n ats) (sym (length-map (A .assertions) (λ (i : Item Assertion). i .at))) ∙ held-front maxAssertions (offsets (A .assertions))
-
-  all-read : assertionsAt W policy (take (length (A .assertions)) ats) ≡ P .assertions
-  all-read = ap (map (assertionAt (contents (A .verbs)) policy)) front ∙ sym (accepted-known policy A (a .end) (a .read) .read)
-
-  reads : Reads W policy (take (length (A .assertions)) ats) (kindTable (contents (A .constants)))
-  reads =
-      let known = accepted-known policy A (a .end) (a .read) in
-      accepted-reads W policy (take (length (A .assertions)) ats) (kindTable (contents (A .constants))) (known .tables .kinds) (known .constants)
-      (λ b m. accepted-fine policy A (a .end) (a .read) b (subst (List·Memᴰ b) all-read m) .fit)
-
-  pub reach-marks : (asked marks : List ℕ) → Marks (issuers (q .node) W) asked
-      → IsReach policy (take (x .assertions) (x .«assertion_at»)) (x .kinds) asked marks → Marks (reachOf (read P q)) marks
-  unfolding indexOf
-  reach-marks asked marks of reaches =
-      subst (λ (𝒜 : List Assertion). Marks (reach W 𝒜 (issuers (q .node) W)) marks) all-read
-      (subst (λ (y : Index). IsReach policy (take (y .assertions) (y .«assertion_at»)) (y .kinds) asked marks) (sym is) reaches W
-      (issuers (q .node) W) reads of)
-
-  -- what the call tells then
   pub accepted-words : (marks : List ℕ) → whoseWords (slices policy request) marks ≡ reached 0 0 0 (marksFrom (reachOf (read P q)) (length marks) 0)
   unfolding whoseWords reachedBy
   accepted-words marks = ap (λ (t : Taken). reachedBy t marks) (inputs a)

@@ -35,7 +35,8 @@ fn mark_reach(policy: &[u8], x: Index, request: &[u8], marks: &mut [u8])
     ensures { λ _. ⌜ ((A : Accepted) (q : syntax.Request) → Accepts (now (policy .entry)) (now (request .entry)) x A q → now (marks .exit) ≡ marksFrom
         (reachOf (read (policyOf A) q)) (length (now (marks .entry))) 0) ⌝ }
 {
-    let reach = steps::reached(policy, x, steps::asked(x, request));
+    let left = x.issuer_at;
+    let reach = steps::reached(policy, x, &left, x.assertions, request);
     mark(&reach, marks);
 }
 

@@ -56,7 +56,7 @@ read-got s A e h =
     let w = choose-yes _ _ 3 (a .1) A e (a .3) .1 in
     let l = list-got s 1 maxConstants (constantItem s) (constantAt s) (itemEnd s) (constant-reads s) 5 (c .0) (c .1) (c .2) in
     let k : Constants s (c .1) = c .2 ∙ ap (λ (is : List (Item Constant)). got is (c .1)) (l .0) in
-    let x : A .constants ≡ c .0 = ap (λ (B : Accepted). B .constants) (let q : A ≡ record { constants = c .0; verbs = v .0; assertions = a .0 } = cc in q) in
+    let x : A .constants ≡ c .0 = ap (λ (B : Accepted). B .constants) (let q : A ≡ record { version = byteAt s 0; constants = c .0; verbs = v .0; assertions = a .0 } = cc in q) in
     record { constants = x ∙ l .0; few = constants-counted s (c .1) k .most; right = constants-right s (c .1) k }
 
 -- ---- by number

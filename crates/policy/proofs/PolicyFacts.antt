@@ -86,17 +86,17 @@ module _ {cs : List Constant} {vs : List Verb} {ks sg : List ℕ} (X : Tables cs
       ap (λ (y : Step). thenStep y (itemsBy ks sg s n)) (item-is X s at (contents is))
       ∙ step-then _ _ _ (λ x e. items-are n e (is ++ record { at = at; of = x } ∷ []))
 
-abbrev made : List (Item Constant) → List (Item Verb) → List (Item Assertion) → Accepted
-made cis vis A = record { constants = cis; verbs = vis; assertions = A }
+abbrev made : List ℕ → List (Item Constant) → List (Item Verb) → List (Item Assertion) → Accepted
+made s cis vis A = record { version = byteAt s 0; constants = cis; verbs = vis; assertions = A }
 
 module _ (s : List ℕ) (cis : List (Item Constant)) (vis : List (Item Verb)) {ks sg : List ℕ} (X : Tables (contents cis) (contents vis) ks sg) where
   pub assertions-are : (p : ℕ) → assertionsBy ks sg s p ≡ step (assertionsFrom s cis vis p)
   unfolding assertionsBy assertionsFrom
   assertions-are p =
       ap (λ (y : Step). choose (countRight s 0 256 p) y (Refused 3 p))
-      (ap (λ (y : Step). thenStep y (endedAt s)) (items-are X s (u16At s p) (p + 2) []) ∙ step-then _ _ _ (λ A e. ended-is s (made cis vis A) e))
+      (ap (λ (y : Step). thenStep y (endedAt s)) (items-are X s (u16At s p) (p + 2) []) ∙ step-then _ _ _ (λ A e. ended-is s (made s cis vis A) e))
       ∙ list-then (countRight s 0 256 p) _ _ p
-      ∙ ap (λ (r : Reading (List (Item Assertion))). step (andThen r (λ A e. ended s (made cis vis A) e)))
+      ∙ ap (λ (r : Reading (List (Item Assertion))). step (andThen r (λ A e. ended s (made s cis vis A) e)))
       (sym (list-is s 0 256 (assertionItem (contents cis) (contents vis) s) p))
 
 -- ---- the tables of a policy whose constants and verbs are in order
@@ -145,7 +145,7 @@ module _ (s : List ℕ) (p : ℕ) (K : Constants s p) where
     rest = assertionsFrom s (constantsAt s (u16At s 5) 7) (verbsAt s (u16At s p) (p + 2))
 
     abbrev with-assertions : List (Item Assertion) → Accepted
-    with-assertions = made (constantsAt s (u16At s 5) 7) (verbsAt s (u16At s p) (p + 2))
+    with-assertions = made s (constantsAt s (u16At s 5) 7) (verbsAt s (u16At s p) (p + 2))
 
     abbrev whole : Accepted
     whole = with-assertions (assertionsAt (contents (verbsAt s (u16At s p) (p + 2))) s (u16At s q) (q + 2))

@@ -11,6 +11,7 @@ use Rattle.model.specs.Lists.{each}
 use Rattle.model.specs.Bytes.{byteAt, u16At, choose}
 use Rattle.model.specs.Readings.{itemEnd, assertionEnd}
 use Rattle.slices.specs.Items.{startsAt}
+use Rattle.assertions.specs.Assertions.{issuerAt}
 use Rattle.policy.specs.Index.{held, kindOf, rowAt, kindsAt, signaturesAt}
 
 any-choice : (b : Bool) (x y : List ℕ) (n : ℕ) → length x ≡ n → length y ≡ n → length (choose b x y) ≡ n
@@ -109,6 +110,10 @@ pub assertion-next : (s : List ℕ) (at r : ℕ) → r ≡ u16At s at → at + 2
 unfolding assertionEnd
 assertion-next s at r e = rw e
 
+pub issuer-is : (at r : ℕ) → r ≡ at + 6 → r ≡ issuerAt at
+unfolding issuerAt
+issuer-is at r e = e
+
 pub row-length : (s : List ℕ) (at : ℕ) → length (rowAt s at) ≡ 4
 unfolding rowAt
 row-length s at = any-choice _ _ _ 4 refl (any-choice _ _ _ 4 refl (any-choice _ _ _ 4 refl refl))
@@ -121,6 +126,9 @@ kind-at s at r e = e
 
 pub starts-held : (g : ℕ → ℕ) (m n p : ℕ) → n ≤ m → sets (replicate m 0) 0 (startsAt g n p) ≡ held m (startsAt g n p)
 starts-held g m n p h = sets-held m (startsAt g n p) (rw (starts-length g n p) h)
+
+pub issuers-held : (g : ℕ → ℕ) (n p : ℕ) → n ≤ 256 → sets (replicate 256 0) 0 (map issuerAt (startsAt g n p)) ≡ held 256 (map issuerAt (startsAt g n p))
+issuers-held g n p h = sets-held 256 _ (rw (length-map, starts-length) h)
 
 pub kinds-held : (s : List ℕ) (n p : ℕ) → n ≤ 255 → sets (replicate 255 0) 0 (map (kindOf s) (startsAt (itemEnd s) n p)) ≡ kindsAt s n p
 unfolding kindsAt

@@ -11,6 +11,7 @@ use Rattle.model.specs.Bytes.{byteAt, u16At, choose, Reading, got, refused}
 use Rattle.model.specs.Readings.{itemEnd, assertionEnd, hasLabel}
 use Rattle.model.specs.Policies.{contents, offsets, Accepted, readPolicy}
 use Rattle.slices.specs.Items.{startsAt}
+use Rattle.assertions.specs.Assertions.{issuerAt}
 use Rattle.policy.specs.declared.Answer.{Answer}
 use Rattle.policy.specs.declared.Answer.the-variants as answers
 use Rattle.policy.specs.declared.Index.{Index}
@@ -38,12 +39,14 @@ verbTable vs = held 260 (rowsOf vs)
 unfoldable pub indexOf : Accepted → Index
 indexOf A = record {
   answer = answers.Accepted;
+  version = A .version;
   constants = length (A .constants);
   verbs = length (A .verbs);
   assertions = length (A .assertions);
   «constant_at» = held maxConstants (offsets (A .constants));
   «verb_at» = held maxVerbs (offsets (A .verbs));
   «assertion_at» = held maxAssertions (offsets (A .assertions));
+  «issuer_at» = held maxAssertions (map issuerAt (offsets (A .assertions)));
   kinds = kindTable (contents (A .constants));
   signatures = verbTable (contents (A .verbs));
 }
@@ -51,12 +54,14 @@ indexOf A = record {
 unfoldable pub refusal : ℕ → ℕ → Index
 refusal n p = record {
   answer = answers.Refused n p;
+  version = 0;
   constants = 0;
   verbs = 0;
   assertions = 0;
   «constant_at» = replicate maxConstants 0;
   «verb_at» = replicate maxVerbs 0;
   «assertion_at» = replicate maxAssertions 0;
+  «issuer_at» = replicate maxAssertions 0;
   kinds = replicate maxConstants 0;
   signatures = replicate 260 0;
 }
@@ -88,12 +93,14 @@ signaturesAt s n p = held 260 (2 ∷ 1 ∷ 0 ∷ 0 ∷ each (startsAt (itemEnd s
 unfoldable pub indexAt : List ℕ → ℕ → ℕ → List ℕ → List ℕ → Index
 indexAt s p q ks sg = record {
   answer = answers.Accepted;
+  version = byteAt s 0;
   constants = u16At s 5;
   verbs = u16At s p;
   assertions = u16At s q;
   «constant_at» = held maxConstants (startsAt (itemEnd s) (u16At s 5) 7);
   «verb_at» = held maxVerbs (startsAt (itemEnd s) (u16At s p) (p + 2));
   «assertion_at» = held maxAssertions (startsAt (assertionEnd s) (u16At s q) (q + 2));
+  «issuer_at» = held maxAssertions (map issuerAt (startsAt (assertionEnd s) (u16At s q) (q + 2)));
   kinds = ks;
   signatures = sg;
 }

@@ -23,6 +23,8 @@ pub enum Answer {
 // What a policy's reader hands out. Where the policy is refused, all but the answer is 0.
 pub struct Index {
     pub answer: Answer,
+    // as read
+    pub version: usize,
     // how many there are
     pub constants: usize,
     pub verbs: usize,
@@ -31,6 +33,8 @@ pub struct Index {
     pub constant_at: [usize; limits::CONSTANTS],
     pub verb_at: [usize; limits::VERBS],
     pub assertion_at: [usize; limits::ASSERTIONS],
+    // and of each assertion's issuer: nothing else knows where that stands in its item
+    pub issuer_at: [usize; limits::ASSERTIONS],
     // the kind of each constant, and four bytes for each verb from verb 0 on: arity and one, then the kinds of its parameters
     pub kinds: [u8; limits::CONSTANTS],
     pub signatures: [u8; tables::SIGNATURES],
@@ -41,12 +45,14 @@ fn refused(number: u8, place: usize) -> Index
 {
     Index {
         answer: Answer::Refused(number, place),
+        version: 0,
         constants: 0,
         verbs: 0,
         assertions: 0,
         constant_at: [0; limits::CONSTANTS],
         verb_at: [0; limits::VERBS],
         assertion_at: [0; limits::ASSERTIONS],
+        issuer_at: [0; limits::ASSERTIONS],
         kinds: [0; limits::CONSTANTS],
         signatures: [0; tables::SIGNATURES],
     }
@@ -70,14 +76,17 @@ fn accepted(
     let constant_at = tables::constant_offsets(s, n, FIRST_CONSTANT);
     let verb_at = tables::verb_offsets(s, v, p + 2);
     let assertion_at = tables::assertion_offsets(s, a, q + 2);
+    let issuer_at = tables::issuer_offsets(s, a, q + 2);
     Index {
         answer: Answer::Accepted,
+        version: wire::byte_or(s, 0),
         constants: n,
         verbs: v,
         assertions: a,
         constant_at: constant_at,
         verb_at: verb_at,
         assertion_at: assertion_at,
+        issuer_at: issuer_at,
         kinds: kinds,
         signatures: signatures,
     }

@@ -10,6 +10,7 @@ ghost use Rattle.model.specs.Lists.{each};
 ghost use Rattle.model.specs.Readings.{itemEnd, assertionEnd};
 ghost use Rattle.wire.specs.Budget.{farthest};
 ghost use Rattle.slices.specs.Items.{startsAt};
+ghost use Rattle.assertions.specs.Assertions.{issuerAt};
 ghost use Rattle.policy.specs.Index.{held, kindOf, rowAt, kindsAt, signaturesAt};
 
 // The rows of all verbs, verb 0 first.
@@ -42,6 +43,20 @@ fn put_assertions(s: &[u8], n: usize, p: usize, t: &mut [usize])
     let mut at = p;
     while i < n {
         t[i] = at;
+        at = at + 2 + wire::u16_or(s, at);
+        i += 1;
+    }
+}
+
+// Where the issuers of n assertions from p on stand.
+fn put_issuers(s: &[u8], n: usize, p: usize, t: &mut [usize])
+    requires { ⌜ (n ≤ length (now t)) × (p + 65537 * n + 6 ≤ farthest) ⌝ }
+    ensures { λ r. ⌜ now (t .exit) ≡ sets (now (t .entry)) 0 (map issuerAt (startsAt (assertionEnd (now (s .entry))) n p)) ⌝ }
+{
+    let mut i = 0;
+    let mut at = p;
+    while i < n {
+        t[i] = at + assertions::ISSUER;
         at = at + 2 + wire::u16_or(s, at);
         i += 1;
     }
@@ -131,6 +146,16 @@ pub fn assertion_offsets(s: &[u8], n: usize, p: usize) -> [usize; limits::ASSERT
 {
     let mut t = [0usize; limits::ASSERTIONS];
     put_assertions(s, n, p, &mut t);
+    t
+}
+
+// Where the issuers of n assertions from p on stand.
+pub fn issuer_offsets(s: &[u8], n: usize, p: usize) -> [usize; limits::ASSERTIONS]
+    requires { ⌜ (n ≤ maxAssertions) × (p + 65537 * n + 6 ≤ farthest) ⌝ }
+    ensures { λ r. ⌜ r ≡ held maxAssertions (map issuerAt (startsAt (assertionEnd (now (s .entry))) n p)) ⌝ }
+{
+    let mut t = [0usize; limits::ASSERTIONS];
+    put_issuers(s, n, p, &mut t);
     t
 }
 

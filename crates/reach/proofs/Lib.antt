@@ -4,3 +4,4 @@ pub mod Linking
 pub mod Found
 pub mod Meaning
 pub mod Counting
+pub mod Kept
