@@ -4,6 +4,7 @@ ghost use mathlib.Core.Path.{_≡_};
 ghost use Prim.Native.Nat.{_≤_};
 ghost use lib.ListN.{length, take, replicate};
 ghost use Rattle.model.specs.Decision.{lent, decision};
+ghost use Rattle.model.specs.Theorems.{withoutEntries};
 ghost use Rattle.outcome.specs.Line.{lineOf};
 ghost use Rattle.io.specs.Counts.{Counts};
 
@@ -67,11 +68,13 @@ fn load(path: &[u8], to: &mut [u8]) -> usize
 fn answer(policy: &[u8], request: &[u8], text: &mut [u8; 96]) -> usize
     ensures { λ r. ⌜ Counts r (now (text .exit)) ⌝ }
     ensures { λ r. ⌜ take r (now (text .exit))
-        ≡ lineOf (decision (lent (now (policy .entry)) (now (request .entry)) (replicate 65536 0) (replicate 1024 0))) ⌝ }
+        ≡ lineOf (decision (lent (now (policy .entry)) (now (request .entry)) withoutEntries (replicate 65536 0) (replicate 1024 0))) ⌝ }
 {
+    // "document 01's program lends such slices without entries"
+    let withdrawals = [1u8, 0, 0, 0, 2, 0, 0];
     let mut facts = [0u8; FACTS];
     let mut answers = [0u8; ANSWERS];
-    let o = engine::decide(policy, request, &mut facts, &mut answers);
+    let o = engine::decide(policy, request, &withdrawals, &mut facts, &mut answers);
     outcome::line(o, text)
 }
 

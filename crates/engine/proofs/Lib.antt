@@ -1,8 +1,1 @@
-pub mod Asking
-pub mod Deciding
-pub mod Accepting
-pub mod Reaching
-pub mod Answering
-pub mod Refusing
 pub mod Reporting
-pub mod MarkLaws

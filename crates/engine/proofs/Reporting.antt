@@ -12,9 +12,9 @@ use Rattle.model.proofs.OutcomeFacts.{sorted-length, Result, over, many, fine, 
 use Rattle.model.proofs.DecisionFacts.{rounds-facts}
 use Rattle.outcome.specs.Reported.{reportOf}
 use Rattle.outcome.specs.declared.Outcome.{Outcome}
-use Rattle.outcome.specs.declared.Outcome.the-variants.{Allow, Deny, PolicyRefused, RequestRefused, TooManyFacts, TooManyAnswers}
-use Rattle.engine.specs.Numbers.{numbersOf}
-use Rattle.engine.specs.declared.Report as c
+use Rattle.outcome.specs.declared.Outcome.the-variants.{Allow, Deny, PolicyRefused, RequestRefused, WithdrawalsRefused, TooManyFacts, TooManyAnswers}
+use Rattle.outcome.specs.Numbers.{numbersOf}
+use Rattle.outcome.specs.declared.Report as c
 
 -- ---- at most 65,535 facts are reported, whatever the bytes
 
@@ -44,6 +44,7 @@ same-facts (Allow f r a) facts answers = refl
 same-facts (Deny f r) facts answers = refl
 same-facts (PolicyRefused n p) facts answers = refl
 same-facts (RequestRefused n p) facts answers = refl
+same-facts (WithdrawalsRefused n p) facts answers = refl
 same-facts TooManyFacts facts answers = refl
 same-facts (TooManyAnswers f r) facts answers = refl
 
@@ -52,6 +53,7 @@ same-rounds (Allow f r a) facts answers = refl
 same-rounds (Deny f r) facts answers = refl
 same-rounds (PolicyRefused n p) facts answers = refl
 same-rounds (RequestRefused n p) facts answers = refl
+same-rounds (WithdrawalsRefused n p) facts answers = refl
 same-rounds TooManyFacts facts answers = refl
 same-rounds (TooManyAnswers f r) facts answers = refl
 
@@ -60,6 +62,7 @@ same-numbers (Allow f r a) facts answers = refl
 same-numbers (Deny f r) facts answers = refl
 same-numbers (PolicyRefused n p) facts answers = refl
 same-numbers (RequestRefused n p) facts answers = refl
+same-numbers (WithdrawalsRefused n p) facts answers = refl
 same-numbers TooManyFacts facts answers = refl
 same-numbers (TooManyAnswers f r) facts answers = refl
 
@@ -68,6 +71,7 @@ same-factBuffer (Allow f r a) facts answers = refl
 same-factBuffer (Deny f r) facts answers = refl
 same-factBuffer (PolicyRefused n p) facts answers = refl
 same-factBuffer (RequestRefused n p) facts answers = refl
+same-factBuffer (WithdrawalsRefused n p) facts answers = refl
 same-factBuffer TooManyFacts facts answers = refl
 same-factBuffer (TooManyAnswers f r) facts answers = refl
 
@@ -76,6 +80,7 @@ same-answerBuffer (Allow f r a) facts answers = refl
 same-answerBuffer (Deny f r) facts answers = refl
 same-answerBuffer (PolicyRefused n p) facts answers = refl
 same-answerBuffer (RequestRefused n p) facts answers = refl
+same-answerBuffer (WithdrawalsRefused n p) facts answers = refl
 same-answerBuffer TooManyFacts facts answers = refl
 same-answerBuffer (TooManyAnswers f r) facts answers = refl
 

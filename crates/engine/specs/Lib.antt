@@ -1,3 +1,1 @@
-pub mod Accepts
-pub mod Numbers
 pub mod Named

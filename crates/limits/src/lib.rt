@@ -22,6 +22,10 @@ pub const VERBS: usize = 64;
 
 pub const ASSERTIONS: usize = 256;
 
+// ---- request 02: "2-byte count (0 to 256)"
+
+pub const WITHDRAWALS: usize = 256;
+
 // ---- "arity byte 0 to 3", "a nest byte 0 to 3", "a count byte 0 to 4" of body facts and of constraints, operators 1 to 5
 
 pub const ARITY: usize = 3;
@@ -84,7 +88,7 @@ pub const UNBOUND: usize = 255;
 
 // ---- all of them, in this order: each is the model's
 
-pub fn all() -> [usize; 32]
+pub fn all() -> [usize; 33]
     ensures { λ r. ⌜ r ≡ all ⌝ }
 {
     [
@@ -96,6 +100,7 @@ pub fn all() -> [usize; 32]
         CONSTANTS,
         VERBS,
         ASSERTIONS,
+        WITHDRAWALS,
         ARITY,
         NEST,
         BODY,

@@ -131,7 +131,7 @@ module _ (s : List ℕ) (bytes : (i : ℕ) → byteAt s i < 256) where
       let c = andThen-got _ _ A e r in
       let v = andThen-got _ _ A e (c .3) in
       let a = andThen-got _ _ A e (v .3) in
-      let is : record { constants = c .0; verbs = v .0; assertions = a .0 } ≡ A = ended-got s _ A (a .1) e (a .3) in
+      let is : record { version = byteAt s 0; constants = c .0; verbs = v .0; assertions = a .0 } ≡ A = ended-got s _ A (a .1) e (a .3) in
       let C = list-stands (constantItem s) ConstantAt constant-sound s 1 maxConstants 5 (c .0) (c .1) (c .2) in
       let verbs = list-stands (verbItem s) (λ (at : ℕ) (v : Verb). Unit {0}) verb-sound s 0 maxVerbs (c .1) (v .0) (v .1) (v .2) in
       subst Stand is (record {

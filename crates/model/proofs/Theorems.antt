@@ -1,20 +1,19 @@
 -- The proofs of `specs/Theorems.antt`, each under its statement's name with a small first letter.
 use mathlib.Core.Path.{_≡_, refl, sym, ap, subst, subst₂, _∙_}
 use mathlib.Core.Logic.{_↔_}
-use mathlib.Core.Bool.{not}
 use mathlib.Core.List.{List, [], _∷_, List·Memᴰ, List·Memᴰ·head, List·Memᴰ·not-nil, tail-eq-of-cons-eq}
 use Prim.Native.Nat.{ℕ, _≤_, _<_}
 use native.Mathlib.Omega.{arith}
 use native.Mathlib.Decide.{decLt}
 use lib.ListN.{length, getD, List·getD-eq-default}
 use Rattle.model.specs.Limits.{unbound, answerBytes}
-use Rattle.model.specs.Lists.{any, all, each}
+use Rattle.model.specs.Lists.{all, each}
 use Rattle.model.specs.Syntax.{today, Assertion, Withdrawal, Constant, Policy, Request, Node, World, worldOf, Read, worldIn}
 use Rattle.model.specs.Kinds.{noConstant, demandsIn, inPlace, comparable}
 use Rattle.model.specs.Closure.{Derives, First}
 use Rattle.model.specs.Rules.{Rule}
 use Rattle.model.specs.Requests.{issuers, kindsIn, freeKinds, bindingsIn}
-use Rattle.model.specs.Withdrawals.{removes, left, leftIn}
+use Rattle.model.specs.Withdrawals.{stays, left, leftIn}
 use Rattle.model.specs.Bytes.{u16At, u32At, choose, got, andThen}
 use Rattle.model.specs.Reader.{byte, u16, items, list}
 use Rattle.model.specs.Layout.{slice, readWithdrawals}
@@ -213,7 +212,7 @@ module _ {X : Assertion → Type 0} (R : Read) (L : Policy) (x : Longer X (R .po
   longerLeft = left (worldIn R) (R .withdrawals) (L .assertions)
 
   left-adds : Adds X (leftIn R) longerLeft
-  left-adds = adds-kept (λ a. not (any (removes (worldIn R) a) (R .withdrawals))) (x .assertions)
+  left-adds = adds-kept (stays (worldIn R) (R .withdrawals)) (x .assertions)
 
   longer-counts : countedIn (another R L) ≡ counting (worldIn R) longerLeft (issuers (R .request .node) (worldIn R))
   longer-counts = ap (λ (W : World). counting W (left W (R .withdrawals) (L .assertions)) (issuers (R .request .node) W)) longer-world

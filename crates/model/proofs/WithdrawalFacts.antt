@@ -10,7 +10,7 @@ use Rattle.model.specs.Lists.{keep, only, any, all, each, sorted}
 use Rattle.model.specs.Syntax.{Expr, con, var, today, Constraint, Assertion, Withdrawal, World, Node, Said, Read, worldIn}
 use Rattle.model.specs.Values.{passes}
 use Rattle.model.specs.Requests.{issuers}
-use Rattle.model.specs.Withdrawals.{isConstant, noBinding, removes, left, leftIn}
+use Rattle.model.specs.Withdrawals.{isConstant, noBinding, removes, stays, left, leftIn}
 use Rattle.model.specs.Meant.{Outcome}
 use Rattle.model.specs.Rounds.{table}
 use Rattle.model.specs.Steps.{step, eqSaid, byCond, byCanSay, byActAs}
@@ -24,7 +24,7 @@ use Rattle.model.proofs.ListFacts.{and-of, and-in, eqb-in, any-of, any-
 -- ---- what is left is some of the policy's assertions
 
 pub left-in : (R : Read) (a : Assertion) → List·Memᴰ a (leftIn R) → List·Memᴰ a (R .policy .assertions)
-left-in R a m = keep-of (λ a. not (any (removes (worldIn R) a) (R .withdrawals))) (R .policy .assertions) m .0
+left-in R a m = keep-of (stays (worldIn R) (R .withdrawals)) (R .policy .assertions) m .0
 
 -- an assertion is left exactly if no entry has its issuer, its serial, and constraints that all hold
 module _ (W : World) (a : Assertion) where
@@ -40,7 +40,7 @@ module _ (W : World) (a : Assertion) where
       go (var v) t = absurd t
       go today t = absurd t
 
-  removes-of : (w : Withdrawal) → T (removes W a w) → (w .issuer ≡ con (a .issuer)) × (w .serial ≡ a .serial)
+  removes-of : (w : Withdrawal) → T (removes W (a .issuer) (a .serial) w) → (w .issuer ≡ con (a .issuer)) × (w .serial ≡ a .serial)
       × ((c : Constraint) → List·Memᴰ c (w .tests) → T (passes W noBinding c))
   removes-of w t =
       let x = and-of (isConstant (w .issuer) (a .issuer) && eqb (w .serial) (a .serial)) (all (passes W noBinding) (w .tests)) t in
@@ -48,16 +48,16 @@ module _ (W : World) (a : Assertion) where
       (names-it w (y .0), eqb→eq (w .serial) (a .serial) (y .1), λ c m. all-of (passes W noBinding) (x .1) m)
 
   removes-in : (w : Withdrawal) → w .issuer ≡ con (a .issuer) → w .serial ≡ a .serial
-      → ((c : Constraint) → List·Memᴰ c (w .tests) → T (passes W noBinding c)) → T (removes W a w)
+      → ((c : Constraint) → List·Memᴰ c (w .tests) → T (passes W noBinding c)) → T (removes W (a .issuer) (a .serial) w)
   removes-in w e f h =
       let named : T (isConstant (w .issuer) (a .issuer)) = subst (λ (x : Expr). T (isConstant x (a .issuer))) (sym e) (eqb-refl (a .issuer)) in
       and-in (isConstant (w .issuer) (a .issuer) && eqb (w .serial) (a .serial)) (all (passes W noBinding) (w .tests))
       (and-in (isConstant (w .issuer) (a .issuer)) (eqb (w .serial) (a .serial)) named (eqb-in f)) (all-in (passes W noBinding) (w .tests) h)
 
-  stays↔ : (ws : List Withdrawal) → T (not (any (removes W a) ws)) ↔ Stays ws
+  stays↔ : (ws : List Withdrawal) → T (stays W ws a) ↔ Stays ws
   stays↔ ws = (
-    λ t w m e f h. not-in (any (removes W a) ws) t (any-in (removes W a) m (removes-in w e f h)),
-    λ h. not-of (any (removes W a) ws) (λ t. let r = any-of (removes W a) ws t in let x = removes-of (r .0) (r .2) in h (r .0) (r .1) (x .0) (x .1) (x .2)),
+    λ t w m e f h. not-in (any (removes W (a .issuer) (a .serial)) ws) t (any-in (removes W (a .issuer) (a .serial)) m (removes-in w e f h)),
+    λ h. not-of (any (removes W (a .issuer) (a .serial)) ws) (λ t. let r = any-of (removes W (a .issuer) (a .serial)) ws t in let x = removes-of (r .0) (r .2) in h (r .0) (r .1) (x .0) (x .1) (x .2)),
   )
     where
       not-in : (b : Bool) → T (not b) → T b → ⊥
@@ -70,8 +70,8 @@ module _ (W : World) (a : Assertion) where
 
   pub left↔ : (ws : List Withdrawal) (𝒜 : List Assertion) → List·Memᴰ a (left W ws 𝒜) ↔ (List·Memᴰ a 𝒜 × Stays ws)
   left↔ ws 𝒜 = (
-    λ m. let k = keep-of (λ a. not (any (removes W a) ws)) 𝒜 m in (k .0, stays↔ ws .0 (k .1)),
-    λ k. keep-in (λ a. not (any (removes W a) ws)) (k .0) (stays↔ ws .1 (k .1)),
+    λ m. let k = keep-of (stays W ws) 𝒜 m in (k .0, stays↔ ws .0 (k .1)),
+    λ k. keep-in (stays W ws) (k .0) (stays↔ ws .1 (k .1)),
   )
 
 -- what counts is some of what is left

@@ -21,12 +21,16 @@ noBinding = replicate 8 unbound
 
 module _ (W : World) where
   -- "Each reads 'A says A revokes that serial' .., and removes every assertion of that issuer and serial while its constraints hold."
-  abbrev pub removes : Assertion → Withdrawal → Bool
-  removes a w = isConstant (w .issuer) (a .issuer) && eqb (w .serial) (a .serial) && all (passes W noBinding) (w .tests)
+  abbrev pub removes : ℕ → ℕ → Withdrawal → Bool
+  removes issuer serial w = isConstant (w .issuer) issuer && eqb (w .serial) serial && all (passes W noBinding) (w .tests)
 
-  -- what is left: the assertions that no entry removes, in their order
+  -- no entry removes it
+  abbrev pub stays : List Withdrawal → Assertion → Bool
+  stays ws a = not (any (removes (a .issuer) (a .serial)) ws)
+
+  -- what is left, in its order
   abbrev pub left : List Withdrawal → List Assertion → List Assertion
-  left ws 𝒜 = keep (λ a. not (any (removes a) ws)) 𝒜
+  left ws 𝒜 = keep (stays ws) 𝒜
 
 -- "Reach and derivation use what is left."
 abbrev pub leftIn : Read → List Assertion

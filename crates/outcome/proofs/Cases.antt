@@ -19,3 +19,7 @@ full = refl
 pub unsafe : lineOf (report (refusal 7 2 9) 0 0 0 [] []) ≡ text "refused 7 request 9\n"
 unfolding decimalBy decimal sideWord refusalLine lineBy lineOf
 unsafe = refl
+
+pub withdrawn : lineOf (report (refusal 10 3 7) 0 0 0 [] []) ≡ text "refused 10 withdrawals 7\n"
+unfolding decimalBy decimal sideWord refusalLine lineBy lineOf
+withdrawn = refl

@@ -10,7 +10,7 @@ use Rattle.outcome.specs.Line.{text, decimal, decisionLine, sideWord, re
 use Rattle.outcome.specs.Reported.{reportOf}
 use Rattle.outcome.specs.Wrote.{Wrote}
 use Rattle.outcome.specs.declared.Outcome.{Outcome}
-use Rattle.outcome.specs.declared.Outcome.the-variants.{Allow, Deny, PolicyRefused, RequestRefused, TooManyFacts, TooManyAnswers}
+use Rattle.outcome.specs.declared.Outcome.the-variants.{Allow, Deny, PolicyRefused, RequestRefused, WithdrawalsRefused, TooManyFacts, TooManyAnswers}
 use Rattle.outcome.proofs.Decimals.{twenty}
 use Rattle.outcome.proofs.Writing.{onto}
 
@@ -33,39 +33,41 @@ counts-are at facts rounds answers v w x y =
     (onto (λ l. l ++ text " answers " ++ decimal answers) (at + 84)
     (onto (λ l. l ++ text " rounds " ++ decimal rounds) (at + 55) v w (λ i. omega arith)) x (λ i. omega arith)) y (λ i. omega arith)
 
--- the word of a side
+-- the word of a side: at most thirteen bytes
 module _ {a b : List ℕ} {r : ℕ} (at side : ℕ) where
-  pub side-policy : side ≡ 1 → Wrote a b at r (at + 8) (take at a ++ text " policy ") → Wrote a b at r (at + 9) (take at a ++ sideWord side)
-  unfolding sideWord
-  side-policy e w = rw (eq-eqb side 1 e) (record { is = w .is; rest = w .rest; onward = w .onward; near = let i = w .near in omega arith; whole = w .whole })
+  -- what was written within fewer bytes
+  shorter : {t : List ℕ} (n : ℕ) → n ≤ 13 → Wrote a b at r (at + n) t → Wrote a b at r (at + 13) t
+  shorter n h w = record { is = w .is; rest = w .rest; onward = w .onward; near = let i = w .near in omega arith; whole = w .whole }
 
-  pub side-request : side ≡ 2 → Wrote a b at r (at + 9) (take at a ++ text " request ") → Wrote a b at r (at + 9) (take at a ++ sideWord side)
+  pub side-policy : side ≡ 1 → Wrote a b at r (at + 8) (take at a ++ text " policy ") → Wrote a b at r (at + 13) (take at a ++ sideWord side)
   unfolding sideWord
-  side-request e w = rw (ne-eqb side 1 (λ f. absurd (omega arith)), eq-eqb side 2 e) w
+  side-policy e w = rw (eq-eqb side 1 e) (shorter 8 (omega arith) w)
 
-  pub side-none : (side ≡ 1 → ⊥) → (side ≡ 2 → ⊥) → Wrote a b at r (at + 6) (take at a ++ text " none ") → Wrote a b at r (at + 9) (take at a ++ sideWord side)
+  pub side-request : side ≡ 2 → Wrote a b at r (at + 9) (take at a ++ text " request ") → Wrote a b at r (at + 13) (take at a ++ sideWord side)
   unfolding sideWord
-  side-none f g w = rw (ne-eqb side 1 f, ne-eqb side 2 g) (record {
-    is = w .is;
-    rest = w .rest;
-    onward = w .onward;
-    near = let i = w .near in
-        omega arith;
-    whole = w .whole;
-  })
+  side-request e w = rw (ne-eqb side 1 (λ f. absurd (omega arith)), eq-eqb side 2 e) (shorter 9 (omega arith) w)
+
+  pub side-withdrawals : side ≡ 3 → Wrote a b at r (at + 13) (take at a ++ text " withdrawals ") → Wrote a b at r (at + 13) (take at a ++ sideWord side)
+  unfolding sideWord
+  side-withdrawals e w = rw (ne-eqb side 1 (λ f. absurd (omega arith)), ne-eqb side 2 (λ f. absurd (omega arith)), eq-eqb side 3 e) w
+
+  pub side-none : (side ≡ 1 → ⊥) → (side ≡ 2 → ⊥) → (side ≡ 3 → ⊥) → Wrote a b at r (at + 6) (take at a ++ text " none ")
+      → Wrote a b at r (at + 13) (take at a ++ sideWord side)
+  unfolding sideWord
+  side-none f g h w = rw (ne-eqb side 1 f, ne-eqb side 2 g, ne-eqb side 3 h) (shorter 6 (omega arith) w)
 
 -- number, side and place
 pub refused-is : {a b c d e : List ℕ} {p q r s : ℕ} (number side place : ℕ) → place < 18446744073709551616
     → Wrote a b 0 p 28 (text "refused " ++ decimal number)
-    → Wrote b c p q (p + 9) (take p b ++ sideWord side)
+    → Wrote b c p q (p + 13) (take p b ++ sideWord side)
     → Wrote c d q r (q + length (decimal place)) (take q c ++ decimal place)
     → Wrote d e r s (r + 1) (take r d ++ text "\n")
     → Wrote a e 0 s 96 (refusalLine number side place)
 unfolding refusalLine
 refused-is number side place h v w x y =
     onto (λ l. l ++ text "\n") 96
-    (onto (λ l. l ++ decimal place) 57
-    (onto (λ l. l ++ sideWord side) 37 v w (λ i. omega arith)) x (λ i. let j = twenty place h in omega arith)) y (λ i. omega arith)
+    (onto (λ l. l ++ decimal place) 61
+    (onto (λ l. l ++ sideWord side) 41 v w (λ i. omega arith)) x (λ i. let j = twenty place h in omega arith)) y (λ i. omega arith)
 
 -- ---- the line of each outcome
 
@@ -102,6 +104,11 @@ pub request-is : {a b : List ℕ} {r : ℕ} (o : Outcome) (number place : ℕ) �
 unfolding lineOf lineBy
 request-is o number place e l w = line-is o (refusalLine number 2 place) (rw e) l w
 
+pub withdrawals-is : {a b : List ℕ} {r : ℕ} (o : Outcome) (number place : ℕ) → o ≡ Outcome.WithdrawalsRefused number place → length a ≡ 96
+    → Wrote a b 0 r 96 (refusalLine number 3 place) → Line a b r o
+unfolding lineOf lineBy
+withdrawals-is o number place e l w = line-is o (refusalLine number 3 place) (rw e) l w
+
 pub facts-are : {a b : List ℕ} {r : ℕ} (o : Outcome) → o ≡ Outcome.TooManyFacts → length a ≡ 96 → Wrote a b 0 r 96 (refusalLine 8 0 0) → Line a b r o
 unfolding lineOf lineBy
 facts-are o e l w = line-is o (refusalLine 8 0 0) (rw e) l w
@@ -118,5 +125,6 @@ any-buffers (Allow f r a) facts answers = refl
 any-buffers (Deny f r) facts answers = refl
 any-buffers (PolicyRefused n p) facts answers = refl
 any-buffers (RequestRefused n p) facts answers = refl
+any-buffers (WithdrawalsRefused n p) facts answers = refl
 any-buffers TooManyFacts facts answers = refl
 any-buffers (TooManyAnswers f r) facts answers = refl

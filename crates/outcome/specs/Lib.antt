@@ -1,3 +1,4 @@
 pub mod Line
 pub mod Reported
 pub mod Wrote
+pub mod Numbers

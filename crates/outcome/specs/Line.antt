@@ -26,9 +26,13 @@ unfoldable pub decisionLine : List ℕ → ℕ → ℕ → ℕ → List ℕ
 decisionLine word facts rounds answers =
     word ++ text " facts " ++ decimal facts ++ text " rounds " ++ decimal rounds ++ text " answers " ++ decimal answers ++ text "\n"
 
--- "side (policy, request, none)"
+-- "side (policy, request, none)"; of the slice that request 02 adds, its name
 unfoldable pub sideWord : ℕ → List ℕ
-sideWord side = cond (eqb side 1) (text " policy ") (cond (eqb side 2) (text " request ") (text " none "))
+sideWord side =
+    cond (eqb side 1) (text " policy ")
+    (cond (eqb side 2) (text " request ")
+    (cond (eqb side 3) (text " withdrawals ")
+    (text " none ")))
 
 -- `refused 8 none 0`: "number, side, place"
 unfoldable pub refusalLine : ℕ → ℕ → ℕ → List ℕ

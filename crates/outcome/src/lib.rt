@@ -1,4 +1,6 @@
-// What a decision says, and the line that a program prints of it.
+// What a decision says, the line that a program prints of it, and its numbers for C.
+pub mod numbers;
+
 ghost use mathlib.Core.Path.{_≡_};
 ghost use mathlib.Core.List.{[], _++_};
 ghost use Prim.Native.Nat.{_+_, _≤_, _<_};
@@ -7,7 +9,7 @@ ghost use Rattle.outcome.specs.Line.{decimal, decisionLine, sideWord, re
 ghost use Rattle.outcome.specs.Reported.{reportOf};
 ghost use Rattle.outcome.specs.Wrote.{Wrote};
 
-// A decision, or one of nine numbered refusals with a place: one outcome for each report (`specs/Reported.OneSpelling`).
+// A decision, or one of the numbered refusals with a place: one outcome for each report (`specs/Reported.OneSpelling`).
 pub enum Outcome {
     // the counts of facts, rounds and answers
     Allow(usize, usize, usize),
@@ -17,10 +19,27 @@ pub enum Outcome {
     PolicyRefused(u8, usize),
     // side request, 1, 2, 3, 5 or 7: the number and the place
     RequestRefused(u8, usize),
+    // side withdrawals, 1, 2, 3, 5 or 10: the number and the place
+    WithdrawalsRefused(u8, usize),
     // 8
     TooManyFacts,
     // 9: the counts of facts and rounds
     TooManyAnswers(usize, usize),
+}
+
+// What the C interface returns: numbers alone.
+#[repr(C)]
+pub struct Report {
+    // 0 refused, 1 allow, 2 deny
+    pub decision: u32,
+    // 1 to 10, 0 with a decision
+    pub refusal: u32,
+    // 1 policy, 2 request, 3 withdrawals, 0 none
+    pub side: u32,
+    pub facts: u32,
+    pub rounds: u32,
+    pub place: u64,
+    pub answers: u64,
 }
 
 // ---- each function writes to `out` from `at` on, and answers where what it wrote ends
@@ -80,14 +99,17 @@ fn counted(out: &mut [u8], at: usize, facts: usize, rounds: usize, answers: usiz
 }
 
 fn side_word(out: &mut [u8], at: usize, side: u8) -> usize
-    requires { ⌜ at + 9 ≤ length (now out) ⌝ }
-    ensures { λ r. ⌜ Wrote (now (out .entry)) (now (out .exit)) at r (at + 9) (take at (now (out .entry)) ++ sideWord side) ⌝ }
+    requires { ⌜ at + 13 ≤ length (now out) ⌝ }
+    ensures { λ r. ⌜ Wrote (now (out .entry)) (now (out .exit)) at r (at + 13) (take at (now (out .entry)) ++ sideWord side) ⌝ }
 {
     if side == 1 {
         return word(out, at, b" policy ");
     }
     if side == 2 {
         return word(out, at, b" request ");
+    }
+    if side == 3 {
+        return word(out, at, b" withdrawals ");
     }
     word(out, at, b" none ")
 }
@@ -119,6 +141,7 @@ pub fn line(o: Outcome, out: &mut [u8; 96]) -> usize
         }
         Outcome::PolicyRefused(number, place) => refusal(out, number as usize, 1, place),
         Outcome::RequestRefused(number, place) => refusal(out, number as usize, 2, place),
+        Outcome::WithdrawalsRefused(number, place) => refusal(out, number as usize, 3, place),
         Outcome::TooManyFacts => refusal(out, 8, 0, 0),
         Outcome::TooManyAnswers(_, _) => refusal(out, 9, 0, 0),
     }

@@ -1,1 +1,2 @@
 pub mod ListFacts
+pub mod StepLaws

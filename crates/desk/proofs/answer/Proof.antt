@@ -5,6 +5,7 @@ use mathlib.Core.List.{List, []}
 use Prim.Native.Nat.{ℕ}
 use lib.ListN.{replicate}
 use Rattle.model.specs.Decision.{Lent, lent, decision}
+use Rattle.model.specs.Theorems.{withoutEntries}
 use Rattle.demands.specs.Demands.{Call}
 use Rattle.outcome.specs.declared.Outcome.{Outcome}
 use Rattle.outcome.specs.Reported.{reportOf}
@@ -21,7 +22,7 @@ returns : tie.Need-returns
 returns c =
     let d = c .before .before .before .before .decide in
     let l = c .line .ensures in
-    (l .0, l .1 .0 ∙ line-of (lent _ _ (replicate 65536 0) (replicate 1024 0)) (d .result) _ _ (d .ensures))
+    (l .0, l .1 .0 ∙ line-of (lent _ _ withoutEntries (replicate 65536 0) (replicate 1024 0)) (d .result) _ _ (d .ensures))
 
 pub answer-spec : {M : Type 1} → statement M
 answer-spec =

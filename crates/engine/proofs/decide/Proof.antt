@@ -1,4 +1,4 @@
-use Rattle.engine.proofs.Refusing.{policy-call}
+use Rattle.deciding.proofs.Refusing.{policy-call}
 use Rattle.model.specs.Decision.{lent}
 use borrow.Author.Needs.{needs}
 use Rattle.engine.proofs.decide.Statement.{statement}

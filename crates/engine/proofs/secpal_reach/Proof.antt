@@ -4,9 +4,9 @@ use Rattle.model.specs.Policies.{readPolicy}
 use Rattle.model.specs.Decision.{slices}
 use Rattle.demands.specs.Lookups.{Reached}
 use Rattle.policy.specs.declared.Index.{Index}
-use Rattle.engine.specs.Numbers.{refusalOf}
-use Rattle.engine.proofs.Refusing.{policy-refused, policy-taken}
-use Rattle.engine.proofs.MarkLaws.{refused-words}
+use Rattle.outcome.specs.Numbers.{refusalOf}
+use Rattle.deciding.proofs.Refusing.{policy-refused, policy-taken}
+use Rattle.deciding.proofs.MarkLaws.{refused-words}
 use borrow.Author.Needs.{needs}
 use Rattle.engine.proofs.secpal_reach.Statement.{statement}
 use Rattle.engine.proofs.secpal_reach.Tie as tie

@@ -1,5 +1,5 @@
 use borrow.Author.Needs.{needs}
-use Rattle.outcome.proofs.Lines.{side-policy, side-request, side-none}
+use Rattle.outcome.proofs.Lines.{side-policy, side-request, side-withdrawals, side-none}
 use Rattle.outcome.proofs.side_word.Statement.{statement}
 use Rattle.outcome.proofs.side_word.Tie as tie
 
@@ -21,7 +21,15 @@ side-word-spec = tie.close (tie.spec
     (λ c κs. search needs)
     (λ c. search needs)
     (λ c.
-    let start = c .before .before .before .before .before .before .before .before in
-    let first = c .before .before .before .before .before .before in
-    let second = c .before .before .before .before .before in
-    side-none (start .args .at) (start .args .side) (first .if1 .left) (second .if2 .left) (c .before .before .word3 .ensures)))
+    let third = c .before .before .before .before .before in
+    let start = third .before .before .before .before in
+    side-withdrawals (start .args .at) (start .args .side) (third .if3 .taken) (c .before .before .word3 .ensures))
+    (λ c. search needs)
+    (λ c κs. search needs)
+    (λ c. search needs)
+    (λ c.
+    let third = c .before .before .before .before .before in
+    let second = third .before in
+    let first = second .before in
+    let start = first .before .before in
+    side-none (start .args .at) (start .args .side) (first .if1 .left) (second .if2 .left) (third .if3 .left) (c .before .before .word4 .ensures)))
