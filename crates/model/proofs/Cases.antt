@@ -11,7 +11,8 @@ use Rattle.model.specs.Bytes.{u16At, u32At, choose, andThen}
 use Rattle.model.specs.Reader.{sized, times, items, byte, u16, u32, byteIn, rest, list}
 use Rattle.model.specs.Calendar.{daysOfYears, daysOfMonths, dateOf, yearAfter}
 use Rattle.model.specs.Layout.{Accepted, policyOf, label, constant, verb, expr, constraint, levels, fact, assertion, constantItem, verbItem}
-use Rattle.model.specs.Layout.{assertionItem, withdrawal, withdrawalItem, asking, parts, node, slice, readPolicy, readRequest, readWithdrawals}
+use Rattle.model.specs.Layout.{assertionItem, withdrawal, withdrawalItem, linked, linkItem, asking, parts, node, slice}
+use Rattle.model.specs.Layout.{readPolicy, readRequest, readWithdrawals, readHierarchy}
 use Rattle.model.specs.Deciding.{read}
 use Rattle.model.specs.Decision.{sided, readSlices, decisionOf, decision}
 use Rattle.model.specs.Theorems.{done, keeps, adds}
@@ -24,7 +25,7 @@ unfolding
     u16At u32At choose andThen
     sized times items byte u16 u32 byteIn rest list
     label constant verb expr constraint levels fact assertion constantItem verbItem assertionItem asking parts node slice readPolicy readRequest
-    withdrawal withdrawalItem readWithdrawals
+    withdrawal withdrawalItem readWithdrawals linked linkItem readHierarchy
     daysOfYears daysOfMonths dateOf yearAfter
     sided readSlices decisionOf decision
 rows = (refl, refl, refl, refl, refl)
@@ -76,10 +77,10 @@ unfolding
     u16At u32At choose andThen
     sized times items byte u16 u32 byteIn rest list
     label constant verb expr constraint levels fact assertion constantItem verbItem assertionItem asking parts node slice readPolicy readRequest
-    withdrawal withdrawalItem readWithdrawals
+    withdrawal withdrawalItem readWithdrawals linked linkItem readHierarchy
     sided readSlices decisionOf decision
 beltPair = record {
-  shorter = read short asked [];
+  shorter = read short asked [] [];
   longer = long;
   inputs = refl;
   longerRead = (accepted (readPolicy longerP), 130, refl, refl);

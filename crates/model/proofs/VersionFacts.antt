@@ -7,7 +7,7 @@ use Rattle.model.specs.Syntax.{Expr, Fact, flat, canSay, Constraint, Ass
 use Rattle.model.specs.Versions.{carries}
 use Rattle.model.specs.Values.{passes}
 use Rattle.model.specs.Closure.{Within}
-use Rattle.model.specs.Rules.{Rule, cond, canSays, actsAs}
+use Rattle.model.specs.Rules.{Rule, cond, canSays, actsAs, covers}
 use Rattle.model.specs.Reach.{namedBy, Joins, asks, names, Reach}
 use Rattle.model.specs.Reached.{issuedIn, reach, counting}
 use Rattle.model.specs.Requests.{issuers}
@@ -37,6 +37,7 @@ module _ (W : World) where
       (all-in (passes first θ) (a .tests) (λ c i. subst T (passes-world second first θ c refl refl) (all-of (passes second θ) t i)))
   rule-first h ps x canSays = canSays
   rule-first h ps x (actsAs f v) = actsAs f (carries-all f)
+  rule-first h ps x (covers c) = covers c
 
   pub within-first : (𝒜 : List Assertion) (n : ℕ) (x : Said) → Within (Rule second 𝒜) n x → Within (Rule first 𝒜) n x
   within-first 𝒜 = within-more (rule-first (λ a m. m))

@@ -22,8 +22,11 @@ Agree rows = map (λ (r : Row). r .0) rows ≡ map (λ (r : Row). r .1) rows
 abbrev pub lent : ℕ → List ℕ
 lent n = replicate n 165
 
+abbrev pub callOn : List ℕ → List ℕ → List ℕ → List ℕ → ℕ → ℕ → Report
+callOn withdrawals hierarchy policy request facts answers = decision (given.lent policy request withdrawals hierarchy (lent facts) (lent answers))
+
 abbrev pub callWith : List ℕ → List ℕ → List ℕ → ℕ → ℕ → Report
-callWith withdrawals policy request facts answers = decision (given.lent policy request withdrawals (lent facts) (lent answers))
+callWith withdrawals = callOn withdrawals withoutEntries
 
 -- document 01's cases: "document 01's program lends such slices without entries"
 abbrev pub call : List ℕ → List ℕ → ℕ → ℕ → Report
@@ -431,7 +434,7 @@ longerP = policy (i ∷ ii ∷ iii ∷ added ∷ [])
 pub record BeltPair : Type 0 where
   pub shorter : Read
   pub longer : Policy
-  pub inputs : Inputs (slices P Q withoutEntries) shorter
+  pub inputs : Inputs (slices P Q withoutEntries withoutEntries) shorter
   pub longerRead : ReadAs longerP longer
   pub outside : Longer (IssuedOutside shorter) (shorter .policy) longer
   pub positive : Positive (shorter .request .node)

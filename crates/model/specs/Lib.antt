@@ -11,6 +11,7 @@ pub mod Binding
 -- What is true: rules, reach, requests, safety, and the outcome that is meant.
 pub mod Closure
 pub mod Versions
+pub mod Hierarchy
 pub mod Rules
 pub mod Reach
 pub mod Requests
@@ -21,6 +22,7 @@ pub mod Records
 pub mod Meant
 -- What is computed, and proved to be that.
 pub mod Rounds
+pub mod Descendants
 pub mod Steps
 pub mod Reached
 pub mod Judging
