@@ -1,12 +1,12 @@
--- What of a world is looked at: by a constraint its constants and its day, by who joins and by what is left no more than that.
+-- What of a world is looked at: by a constraint its constants and its day, by who joins, by a request's issuers and by what is left no more than that.
 use mathlib.Core.Path.{_≡_, refl, sym, ap, ap₂}
 use mathlib.Core.List.{List, [], _∷_, _++_}
-use mathlib.Core.Bool.{Bool, _&&_, _||_, not}
+use mathlib.Core.Bool.{_&&_, not}
 use Prim.Native.Nat.{ℕ}
 use lib.ListN.{getD}
 use lib.Dec.{eqb}
 use Rattle.model.specs.Limits.{principal, day, unbound}
-use Rattle.model.specs.Lists.{only, any, all}
+use Rattle.model.specs.Lists.{keep, any, all}
 use Rattle.model.specs.Syntax.{Expr, con, var, today, Constraint, Constant, Assertion, Withdrawal, World, Node, Nodes, says, test, allOf, anyOf, non}
 use Rattle.model.specs.Syntax.{exists, end, more}
 use Rattle.model.specs.Kinds.{noConstant}
@@ -43,15 +43,10 @@ module _ (X W : World) (cs : X .constants ≡ W .constants) where
     all-world (more n ns) = ap₂ _++_ (issuers-world n) (all-world ns)
 
   module _ (day : X .today ≡ W .today) where
-    all-pass : (θ : List ℕ) (ts : List Constraint) → all (passes X θ) ts ≡ all (passes W θ) ts
-    all-pass θ [] = refl
-    all-pass θ (c ∷ ts) = ap₂ _&&_ (passes-world X W θ c cs day) (all-pass θ ts)
-
-    removed-world : (a : Assertion) (ws : List Withdrawal) → any (removes X a) ws ≡ any (removes W a) ws
-    removed-world a [] = refl
-    removed-world a (w ∷ ws) =
-        ap₂ (λ (b r : Bool). (isConstant (w .issuer) (a .issuer) && eqb (w .serial) (a .serial) && b) || r) (all-pass noBinding (w .tests)) (removed-world a ws)
+    pub removes-world : (issuer serial : ℕ) (ws : List Withdrawal) → any (removes X issuer serial) ws ≡ any (removes W issuer serial) ws
+    removes-world issuer serial ws =
+        let same : passes X noBinding ≡ passes W noBinding = λ i d. passes-world X W noBinding d cs day i in
+        λ i. any (λ w. isConstant (w .issuer) issuer && eqb (w .serial) serial && all (same i) (w .tests)) ws
 
     pub left-world : (ws : List Withdrawal) (𝒜 : List Assertion) → left X ws 𝒜 ≡ left W ws 𝒜
-    left-world ws [] = refl
-    left-world ws (a ∷ 𝒜) = ap₂ (λ (b : Bool) (l : List Assertion). only (not b) a ++ l) (removed-world a ws) (left-world ws 𝒜)
+    left-world ws 𝒜 = λ i. keep (λ a. not (removes-world (a .issuer) (a .serial) ws i)) 𝒜
