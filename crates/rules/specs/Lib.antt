@@ -6,6 +6,7 @@ pub mod Cond
 pub mod Valid
 pub mod Planning
 pub mod Uses
+pub mod Families
 pub mod Rounds
 pub mod Proper
 pub mod Laid
