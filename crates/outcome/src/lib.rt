@@ -21,6 +21,8 @@ pub enum Outcome {
     RequestRefused(u8, usize),
     // side withdrawals, 1, 2, 3, 5 or 10: the number and the place
     WithdrawalsRefused(u8, usize),
+    // side hierarchy, 1, 2, 3, 5 or 11: the number and the place
+    HierarchyRefused(u8, usize),
     // 8
     TooManyFacts,
     // 9: the counts of facts and rounds
@@ -32,9 +34,9 @@ pub enum Outcome {
 pub struct Report {
     // 0 refused, 1 allow, 2 deny
     pub decision: u32,
-    // 1 to 10, 0 with a decision
+    // 1 to 11, 0 with a decision
     pub refusal: u32,
-    // 1 policy, 2 request, 3 withdrawals, 0 none
+    // 1 policy, 2 request, 3 withdrawals, 4 hierarchy, 0 none
     pub side: u32,
     pub facts: u32,
     pub rounds: u32,
@@ -111,6 +113,9 @@ fn side_word(out: &mut [u8], at: usize, side: u8) -> usize
     if side == 3 {
         return word(out, at, b" withdrawals ");
     }
+    if side == 4 {
+        return word(out, at, b" hierarchy ");
+    }
     word(out, at, b" none ")
 }
 
@@ -142,6 +147,7 @@ pub fn line(o: Outcome, out: &mut [u8; 96]) -> usize
         Outcome::PolicyRefused(number, place) => refusal(out, number as usize, 1, place),
         Outcome::RequestRefused(number, place) => refusal(out, number as usize, 2, place),
         Outcome::WithdrawalsRefused(number, place) => refusal(out, number as usize, 3, place),
+        Outcome::HierarchyRefused(number, place) => refusal(out, number as usize, 4, place),
         Outcome::TooManyFacts => refusal(out, 8, 0, 0),
         Outcome::TooManyAnswers(_, _) => refusal(out, 9, 0, 0),
     }
