@@ -1,5 +1,5 @@
--- The three demands, and what requests 02 and 05 add, as statements about calls of the engine. `proofs/Demands.antt` has a proof of each, under the same name with a
--- small first letter.
+-- The three demands, and what requests 02 and 05 add, as statements about calls of the engine. `proofs/Demands.antt` has a proof of each, under the same name
+-- with a small first letter.
 use mathlib.Core.Path.{_≡_}
 use mathlib.Core.Logic.{_↔_, _⊎_}
 use mathlib.Core.List.{List, [], _∷_, List·Memᴰ}

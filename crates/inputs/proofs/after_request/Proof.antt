@@ -24,8 +24,9 @@ returns c =
     let a = entry reads .args in
     let d = reads .read in
     let z : d .result .refusal ≡ 0 → ⊥ = search needs in (
-      λ P q e t asked. c .refused .ensures
-          ∙ refuses-withdrawals P q (a .hierarchy .now) (readWithdrawals (P .constants) (a .withdrawals .now)) (d .ensures .0 (P .constants) (P .verbs) (a .signatures .now) t) z,
+      λ P q e t asked.
+          let y = readWithdrawals (P .constants) (a .withdrawals .now) in
+          c .refused .ensures ∙ refuses-withdrawals P q (a .hierarchy .now) y (d .ensures .0 (P .constants) (P .verbs) (a .signatures .now) t) z,
       not-taken (c .refused .ensures) z,
     )
 
@@ -39,7 +40,8 @@ returns-2 c =
     let d = reads .read in
     let z : d .result .refusal ≡ 0 = search needs in (
       λ P q e t asked.
-          let w = takes-withdrawals P q (a .hierarchy .now) (readWithdrawals (P .constants) (a .withdrawals .now)) (withdrawals-numbers (P .constants) (a .withdrawals .now))
+          let y = readWithdrawals (P .constants) (a .withdrawals .now) in
+          let w = takes-withdrawals P q (a .hierarchy .now) y (withdrawals-numbers (P .constants) (a .withdrawals .now))
           (d .ensures .0 (P .constants) (P .verbs) (a .signatures .now) t) z in
           c .after-withdrawals .ensures .0 P q e (w .0) t asked (w .1) ∙ sym (ap handedOut (w .2)),
       c .after-withdrawals .ensures .1,

@@ -22,7 +22,9 @@ returns c =
     let reads = c .before .before .before in
     let d = reads .read in
     let z : d .result .refusal ≡ 0 → ⊥ = search needs in (
-      λ P q e ws t asked count. c .refused .ensures ∙ refuses-hierarchy P q ws (readHierarchy (P .constants) (P .verbs) (entry reads .args .hierarchy .now)) (d .ensures .0 (P .constants) (P .verbs) t) z,
+      λ P q e ws t asked count.
+          let y = readHierarchy (P .constants) (P .verbs) (entry reads .args .hierarchy .now) in
+          c .refused .ensures ∙ refuses-hierarchy P q ws y (d .ensures .0 (P .constants) (P .verbs) t) z,
       not-taken (c .refused .ensures) z,
     )
 
@@ -32,10 +34,9 @@ returns-2 c =
     let hierarchy = entry reads .args .hierarchy .now in
     let d = reads .read in
     let z : d .result .refusal ≡ 0 = search needs in (
-      λ P q e ws t asked count. takes-hierarchy P q ws (readHierarchy (P .constants) (P .verbs) hierarchy) (hierarchy-numbers (P .constants) (P .verbs) hierarchy) (d .ensures .0 (P .constants) (P .verbs) t) z
-          e
-          asked
-          count,
+      λ P q e ws t asked count.
+          let y = readHierarchy (P .constants) (P .verbs) hierarchy in
+          takes-hierarchy P q ws y (hierarchy-numbers (P .constants) (P .verbs) hierarchy) (d .ensures .0 (P .constants) (P .verbs) t) z e asked count,
       λ k. d .ensures .1 z,
     )
 

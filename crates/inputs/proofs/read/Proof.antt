@@ -24,7 +24,9 @@ returns c =
     let a = entry reads .args in
     let d = reads .read in
     let z : d .result .refusal ≡ 0 → ⊥ = search needs in (
-      λ P t. c .refused .ensures ∙ refuses-request P (a .withdrawals .now) (a .hierarchy .now) (readRequest (P .constants) (P .verbs) (a .request .now)) (d .ensures .0 (P .constants) (P .verbs) t) z,
+      λ P t.
+          let y = readRequest (P .constants) (P .verbs) (a .request .now) in
+          c .refused .ensures ∙ refuses-request P (a .withdrawals .now) (a .hierarchy .now) y (d .ensures .0 (P .constants) (P .verbs) t) z,
       not-taken (c .refused .ensures) z,
     )
 
