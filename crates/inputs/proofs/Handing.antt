@@ -2,6 +2,7 @@
 use mathlib.Core.Path.{_≡_, refl, sym, ap, subst, _∙_}
 use mathlib.Core.List.{List}
 use Prim.Native.Nat.{ℕ, _≤_}
+use native.Mathlib.Omega.{arith}
 use lib.ListN.{length}
 use lib.Dec.{T}
 use Rattle.model.specs.Lists.{member}
@@ -66,6 +67,7 @@ module _ (P : Policy) where
   record Tells (y : Reading syntax.Request) (yw : Reading (List Withdrawal)) (yh : Reading (List Link)) (h : Handed) : Type 0 where
     all : h .refusal ≡ 0 → All y yw yh h
     none : (h .refusal ≡ 0 → ⊥) → taken y yw yh ≡ refusedOn (h .refusal) (h .side) (h .place)
+    side : (h .refusal ≡ 0 → ⊥) → (1 ≤ h .side) × (h .side ≤ 4)
 
   some-number : {ns : List ℕ} {n : ℕ} {A : Type 0} → (T (member 0 ns) → ⊥) → T (member n ns) → n ≡ 0 → A
   some-number {ns} z t e = absurd (z (subst (λ (m : ℕ). T (member m ns)) e t))
@@ -73,9 +75,9 @@ module _ (P : Policy) where
   tells : (y : Reading syntax.Request) (yw : Reading (List Withdrawal)) (yh : Reading (List Link)) → RefusesBy ofRequest y → RefusesBy ofWithdrawals yw
       → RefusesBy ofHierarchy yh → Tells y yw yh (handedOut (taken y yw yh))
   unfolding sided handedOut requests.handedOut
-  tells (refused n p) yw yh k l m = record { all = some-number (λ t. t) k; none = λ z. refl }
-  tells (got q e) (refused n p) yh k l m = record { all = some-number (λ t. t) l; none = λ z. refl }
-  tells (got q e) (got ws f) (refused n p) k l m = record { all = some-number (λ t. t) m; none = λ z. refl }
+  tells (refused n p) yw yh k l m = record { all = some-number (λ t. t) k; none = λ z. refl; side = λ z. (omega arith, omega arith) }
+  tells (got q e) (refused n p) yh k l m = record { all = some-number (λ t. t) l; none = λ z. refl; side = λ z. (omega arith, omega arith) }
+  tells (got q e) (got ws f) (refused n p) k l m = record { all = some-number (λ t. t) m; none = λ z. refl; side = λ z. (omega arith, omega arith) }
   tells (got q e) (got ws f) (got H g) k l m = record {
     all = λ z. record {
       q = q;
@@ -92,6 +94,7 @@ module _ (P : Policy) where
       links = refl;
     };
     none = λ z. absurd (z refl);
+    side = λ z. absurd (z refl);
   }
 
 -- ---- under an accepted policy
@@ -141,6 +144,9 @@ module _ (policy request withdrawals hierarchy : List ℕ) (x : Index) (i : x �
   refuses z =
       let w = policy-got in
       on-policy (slices policy request withdrawals hierarchy) P (w .0, w .1, w .2, refl) ∙ told .none z
+
+  pub on-side : (h .refusal ≡ 0 → ⊥) → (1 ≤ h .side) × (h .side ≤ 4)
+  on-side = told .side
 
 -- what the model reports then
 pub refused-call : (l : Lent) (n side p : ℕ) → readSlices (l .slices) ≡ refusedOn n side p → Call l (untouched n side p l)
