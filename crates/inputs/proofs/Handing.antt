@@ -29,7 +29,7 @@ use Rattle.program.proofs.Ready.{accepted-by}
 use Rattle.request.specs.Requests as requests
 use Rattle.request.specs.declared.Request.{Request}
 use Rattle.inputs.specs.Handed.{handedOut, afterWithdrawals, afterRequest, afterPolicy}
-use Rattle.inputs.specs.Accepts.{Accepts, Takes, Withdraws, Links, Hands}
+use Rattle.inputs.specs.Accepts.{Takes, Withdraws, Hands}
 use Rattle.inputs.specs.declared.Handed.{Handed}
 
 -- ---- an accepted policy's tables, in the words of the reader's index
@@ -136,7 +136,7 @@ module _ (policy request withdrawals hierarchy : List ℕ) (x : Index) (i : x �
             short = s .0;
           };
           withdraws = record { end = t .lastEntry; read = t .withdrawn; counts = t .entries };
-          links = record { end = t .lastLink; read = t .linked; counts = t .links; short = s .1 };
+          links = record { end = t .lastLink; read = t .linked; count = t .links };
         },
       )
 

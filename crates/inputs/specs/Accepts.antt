@@ -7,12 +7,13 @@ use Rattle.model.specs.Syntax as syntax
 use Rattle.model.specs.Bytes.{got}
 use Rattle.model.specs.Policies.{Accepted, policyOf, readPolicy}
 use Rattle.model.specs.Nodes.{readRequest}
-use Rattle.model.specs.Entries.{readWithdrawals, readHierarchy}
+use Rattle.model.specs.Entries.{readWithdrawals}
 use Rattle.wire.specs.Budget.{longest}
 use Rattle.policy.specs.Index as policies
 use Rattle.policy.specs.declared.Index.{Index}
 use Rattle.request.specs.Requests as requests
 use Rattle.request.specs.declared.Request.{Request}
+use Rattle.derive.specs.Given.{Links}
 use Rattle.inputs.specs.declared.Handed.{Handed}
 
 pub record Accepts (policy request : List ℕ) (x : Index) (A : Accepted) (q : syntax.Request) : Type 0 where
@@ -33,13 +34,6 @@ pub record Withdraws (withdrawals : List ℕ) (count : ℕ) (A : Accepted) (ws :
   pub end : ℕ
   pub read : readWithdrawals (policyOf A .constants) withdrawals ≡ got ws end
   pub counts : count ≡ length ws
-
--- the hierarchy, which has so many entries
-pub record Links (hierarchy : List ℕ) (count : ℕ) (A : Accepted) (H : List syntax.Link) : Type 0 where
-  pub end : ℕ
-  pub read : readHierarchy (policyOf A .constants) (policyOf A .verbs) hierarchy ≡ got H end
-  pub counts : count ≡ length H
-  pub short : length hierarchy ≤ longest
 
 -- all four, and h is what the readers of those after the policy handed out
 pub record Hands (policy request withdrawals hierarchy : List ℕ) (x : Index) (h : Handed) (A : Accepted) (q : syntax.Request) (ws : List syntax.Withdrawal)
