@@ -1,6 +1,6 @@
 -- The invariant: from entry i on the chain says what all entries say. Links go to smaller numbers, so the walk ends.
 use mathlib.Core.Path.{_≡_, _∙_}
-use Prim.Native.Nat.{ℕ, _≤_}
+use Prim.Native.Nat.{ℕ, _<_, _≤_}
 use native.Mathlib.Omega.{arith}
 use borrow.Author.Needs.{needs}
 use lib.ListN.{take}
@@ -38,20 +38,20 @@ sub-names : tie.Need-sub-names Inv-loop μ-loop
 sub-names c = search needs
 
 mul-names : tie.Need-mul-names Inv-loop μ-loop
-mul-names c = let there = c .before .loop .inv .0 in omega (arith, entry-near (there .1) _ (there .2) (c .loop-test .taken))
+mul-names c = let there = c .before .loop .inv .0 in omega (arith, entry-near (there .1) _ (there .2) (omega (arith, c .loop-test .taken)))
 
 -- entry i
 shared-slice-read-names : tie.Need-shared-slice-read-names Inv-loop μ-loop
 shared-slice-read-names c =
     let test = c .before in
     let there = test .before .loop .inv .0 in
-    entry-near (there .1) _ (there .2) (test .loop-test .taken) .0
+    entry-near (there .1) _ (there .2) (omega (arith, test .loop-test .taken)) .0
 
 names-requires : tie.Need-names-requires Inv-loop μ-loop
 names-requires c κs =
     let test = c .before in
     let there = test .before .loop .inv .0 in
-    entry-near (there .1) _ (there .2) (test .loop-test .taken) .1
+    entry-near (there .1) _ (there .2) (omega (arith, test .loop-test .taken)) .1
 
 -- it is for them
 returns : tie.Need-returns Inv-loop μ-loop
@@ -61,20 +61,20 @@ returns c =
     let loop = test .before .loop in
     let there = loop .inv .0 in
     let yes = via (asked .names .ensures) (c .if1 .taken) in
-    λ count L. chain-here (there .1) _ (there .2) (test .loop-test .taken) _ _ yes ∙ loop .inv .1 count L
+    λ count L. chain-here (there .1) _ (there .2) (omega (arith, test .loop-test .taken)) _ _ yes ∙ loop .inv .1 count L
 
 -- it is not: the next older one
 older-requires : tie.Need-older-requires Inv-loop μ-loop
 older-requires c κs =
     let test = c .before .before .before in
     let there = test .before .loop .inv .0 in
-    link-there (there .1) _ (there .2) (test .loop-test .taken)
+    link-there (there .1) _ (there .2) (omega (arith, test .loop-test .taken))
 
 loop-less : tie.Need-loop-less Inv-loop μ-loop
 loop-less c =
     let test = c .before .before .before .before in
     let there = test .before .loop .inv .0 in
-    omega (arith, c .older .ensures .0, link-falls (there .1) _ (there .2) (test .loop-test .taken))
+    omega (arith, c .older .ensures .0, link-falls (there .1) _ (there .2) (omega (arith, test .loop-test .taken)))
 
 loop-again : tie.Need-loop-again Inv-loop μ-loop
 loop-again c =
@@ -82,7 +82,7 @@ loop-again c =
     let test = asked .before .before in
     let loop = test .before .loop in
     let there = loop .inv .0 in
-    let more = test .loop-test .taken in
+    let more : 0 < loop .i = omega (arith, test .loop-test .taken) in
     let older = c .older .ensures .0 in
     let no = via (asked .names .ensures) (c .before .if1 .left) in (
       (there .0, there .1, omega (arith, older, there .2, link-falls (there .1) _ (there .2) more)),
