@@ -47,7 +47,8 @@ loop-again c =
     let test = end .before in
     let loop = test .before in
     let no = sym (asked .holds .ensures) ∙ not-true _ (c .if1 .taken) in
-    holding-passed _ _ (loop .loop .inv) (entry loop .pre .2) (λ e. omega (arith, test .loop-test .taken)) _ (end .entry-end .ensures .0) (end .entry-end .ensures .1) no
+    let next = end .entry-end .ensures in
+    holding-passed _ _ (loop .loop .inv) (entry loop .pre .2) (λ e. omega (arith, test .loop-test .taken)) _ (next .0) (next .1) no
 
 mul-ats : tie.Need-mul-ats Inv-loop μ-loop
 mul-ats c = search needs
@@ -75,7 +76,8 @@ loop-again-2 c =
     let test = end .before in
     let loop = test .before in
     let yes = sym (asked .holds .ensures) ∙ not-false _ (c .if1 .left) in
-    holding-went _ _ (loop .loop .inv) (entry loop .pre .2) (λ e. omega (arith, test .loop-test .taken)) _ (end .entry-end .ensures .0) (end .entry-end .ensures .1) yes
+    let next = end .entry-end .ensures in
+    holding-went _ _ (loop .loop .inv) (entry loop .pre .2) (λ e. omega (arith, test .loop-test .taken)) _ (next .0) (next .1) yes
 
 same-length : tie.Need-same-length Inv-loop μ-loop
 same-length c = let loop = c .before in loop .loop .inv .long ∙ sym (entry loop .pre .3)
