@@ -25,5 +25,18 @@ kinds-are-spec =
     (λ c. search needs)
     (λ c κs. search needs)
     (λ c κs. search needs)
-    (λ c. rw (← c .before .before .before .before .before .before .before .byte-or .ensures .0, ← c .before .before .before .before .before .before .byte-or2 .ensures .0, ← c .before .before .before .before .before .byte-or3 .ensures .0, ← c .before .before .before .before .u16-or .ensures .0, ← c .before .before .before .byte-or4 .ensures .0, ← c .before .u16-or2 .ensures .0) (search (reading, needs)))
-    (λ c. rw (← c .before .before .before .before .before .byte-or .ensures .0, ← c .before .before .before .before .byte-or2 .ensures .0, ← c .before .before .before .byte-or3 .ensures .0, ← c .before .before .u16-or .ensures .0, ← c .before .byte-or4 .ensures .0) (search (reading, needs))))
+    (λ c. rw (
+      ← c .before .before .before .before .before .before .before .byte-or .ensures .0,
+      ← c .before .before .before .before .before .before .byte-or2 .ensures .0,
+      ← c .before .before .before .before .before .byte-or3 .ensures .0,
+      ← c .before .before .before .before .u16-or .ensures .0,
+      ← c .before .before .before .byte-or4 .ensures .0,
+      ← c .before .u16-or2 .ensures .0,
+    ) (search (reading, needs)))
+    (λ c. rw (
+      ← c .before .before .before .before .before .byte-or .ensures .0,
+      ← c .before .before .before .before .byte-or2 .ensures .0,
+      ← c .before .before .before .byte-or3 .ensures .0,
+      ← c .before .before .u16-or .ensures .0,
+      ← c .before .byte-or4 .ensures .0,
+    ) (search (reading, needs))))
