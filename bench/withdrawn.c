@@ -91,7 +91,7 @@ static int row(const char *dir, const slices *with, const slices *without) {
 /* A workload without entries. */
 static int filled_row(const char *dir) {
     slices given = read_slices(dir);
-    slices with = {filled(given.policy), given.request, entries()};
+    slices with = {filled(given.policy), given.request, entries(), given.hierarchy};
     return row(dir, &with, &given);
 }
 
@@ -103,7 +103,7 @@ static int withdrawn_row(const char *dir) {
     read_file(&own_policy, dir, "policy.bin");
     read_file(&own_request, dir, "request.bin");
     read_file(&own_withdrawals, dir, "withdrawals.bin");
-    slices with = {{own_policy.bytes, own_policy.len}, {own_request.bytes, own_request.len}, {own_withdrawals.bytes, own_withdrawals.len}};
+    slices with = {{own_policy.bytes, own_policy.len}, {own_request.bytes, own_request.len}, {own_withdrawals.bytes, own_withdrawals.len}, no_entries};
     slices without = read_slices(beside);
     return row(dir, &with, &without);
 }

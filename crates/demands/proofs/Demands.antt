@@ -16,7 +16,7 @@ use Rattle.model.proofs.Theorems as M
 use Rattle.demands.specs.Demands as Q
 use Rattle.demands.specs.Demands.{TableOf, AnswersOf, AnsweredAs, Unmarked}
 use Rattle.demands.proofs.Sides.{number-of, no-refusal, word-decides, made-answered, policy-kept, policy-side, request-kept, request-side}
-use Rattle.demands.proofs.Sides.{withdrawals-kept, withdrawals-side, was-accepted}
+use Rattle.demands.proofs.Sides.{withdrawals-kept, withdrawals-side, hierarchy-kept, hierarchy-side, was-accepted}
 use Rattle.demands.proofs.Marking.{marks-of, adds-by}
 use Rattle.demands.proofs.Holding.{counts↔, entry-derives, first-round, table-fits, record-length, table-of, answers-of}
 
@@ -82,6 +82,8 @@ module _ (l : Lent) where
     requestKeeps = request-kept l;
     withdrawalsSide = withdrawals-side l;
     withdrawalsKeeps = withdrawals-kept l;
+    hierarchySide = λ P q ws h k w. hierarchy-side l P q h k ws w;
+    hierarchyKeeps = λ P q ws h k w. hierarchy-kept l P q h k ws w;
     eight = M.eight l;
     eightLeaves = λ R h v. let m = M.meaning l R h in eight-leaves l R h (m .2) (m .1) v;
     nine = M.nine l;
@@ -158,6 +160,17 @@ withoutEntries = M.nothingWithdrawn
 
 pub serialsCall : Q.SerialsCall
 serialsCall l other R L ρ ρ′ c c′ h a none e = c′ ∙ (M.serialsAside l other R L h a none e ∙ sym c)
+
+-- ---- the hierarchy
+
+pub withoutHierarchy : Q.WithoutHierarchy
+withoutHierarchy = M.noHierarchy
+
+pub theDescendants : Q.TheDescendants
+theDescendants = M.computedDescendants
+
+pub theGround : Q.TheGround
+theGround = M.ground
 
 -- ---- whose words count
 

@@ -1,11 +1,12 @@
--- The numbers of the refusals from the input: the policy's are 1 to 6, the request's 1, 2, 3, 5 and 7, the withdrawals' 1, 2, 3, 5 and 10.
+-- The numbers of the refusals from the input: the policy's are 1 to 6, the request's 1, 2, 3, 5 and 7, the withdrawals' 1, 2, 3, 5 and 10, the
+-- hierarchy's 1, 2, 3, 5 and 11.
 use mathlib.Core.List.{List, [], _∷_, _++_}
 use mathlib.Core.Bool.{Bool, true, false}
 use Prim.Native.Nat.{ℕ, zero, suc, _+_}
 use lib.Dec.{T}
 use Rattle.model.specs.Limits.{maxDepth, version}
 use Rattle.model.specs.Lists.{member}
-use Rattle.model.specs.Syntax.{Assertion, Withdrawal, Constant, Verb, Request}
+use Rattle.model.specs.Syntax.{Assertion, Withdrawal, Link, Constant, Verb, Request}
 use Rattle.model.specs.Kinds.{Demands}
 use Rattle.model.specs.Bytes.{byteAt, choose, Reading, got, refused, andThen}
 use Rattle.model.specs.Readings.{Sort, saysSort, testSort, allSort, anySort, notSort, existsSort, noSort, sortOf, assertionAt}
@@ -17,8 +18,8 @@ use Rattle.model.proofs.PolicyReader.{policy-is}
 use Rattle.model.specs.Policies.{computedPolicy}
 use Rattle.model.proofs.RequestReader.{request-is}
 use Rattle.model.specs.Nodes.{computedRequest}
-use Rattle.model.proofs.EntryReader.{withdrawals-is}
-use Rattle.model.specs.Entries.{withdrawalItem, computedWithdrawals, readWithdrawals}
+use Rattle.model.proofs.EntryReader.{withdrawals-is, hierarchy-is}
+use Rattle.model.specs.Entries.{withdrawalItem, computedWithdrawals, readWithdrawals, linkJudged, linkItem, computedHierarchy, readHierarchy}
 
 -- a reading that refuses with a number of the list, if it refuses
 abbrev pub RefusesBy : List ℕ → {A : Type 0} → Reading A → Type 0
@@ -160,4 +161,22 @@ unfolding computedWithdrawals
 withdrawals-numbers cs s = rw (withdrawals-is cs s) (
     by-head ofWithdrawals version s _ tt tt
     (by-turns ofWithdrawals _ _ (by-list ofWithdrawals s _ _ _ tt (withdrawal-numbers cs s) _) (λ ws e. by-end ofWithdrawals s _ e tt))
+    )
+
+-- ---- the hierarchy
+
+abbrev pub ofHierarchy : List ℕ
+ofHierarchy = 1 ∷ 2 ∷ 3 ∷ 5 ∷ 11 ∷ []
+
+link-numbers : (cs : List Constant) (vs : List Verb) (s : List ℕ) (earlier : List Link) (at : ℕ) → RefusesBy ofHierarchy (linkItem cs vs s earlier at)
+unfolding linkItem linkJudged
+link-numbers cs vs s earlier at =
+    by-choice ofHierarchy _ _ _ tt (by-choice ofHierarchy _ _ _ tt (by-choice ofHierarchy _ _ _ tt
+    (by-choice ofHierarchy _ _ _ (by-choice ofHierarchy _ _ _ tt tt) tt)))
+
+pub hierarchy-numbers : (cs : List Constant) (vs : List Verb) (s : List ℕ) → RefusesBy ofHierarchy (readHierarchy cs vs s)
+unfolding computedHierarchy
+hierarchy-numbers cs vs s = rw (hierarchy-is cs vs s) (
+    by-head ofHierarchy version s _ tt tt
+    (by-turns ofHierarchy _ _ (by-list ofHierarchy s _ _ _ tt (link-numbers cs vs s) _) (λ ls e. by-end ofHierarchy s _ e tt))
     )

@@ -4,18 +4,19 @@ use mathlib.Core.Logic.{_↔_}
 use mathlib.Core.List.{List, [], _∷_, List·Memᴰ, List·Memᴰ·head, List·Memᴰ·tail}
 use Prim.Native.Nat.{ℕ, suc}
 use native.Mathlib.Omega.{arith}
-use Rattle.model.specs.Syntax.{Policy, Request, Withdrawal, Read}
+use Rattle.model.specs.Syntax.{Policy, Request, Withdrawal, Link, Read}
 use Rattle.model.specs.Meant.{Outcome, tooManyFacts, tooManyAnswers, decided}
 use Rattle.model.specs.Deciding.{decide, read}
 use Rattle.model.specs.Bytes.{Reading, got, refused}
 use Rattle.model.specs.Policies.{Accepted, policyOf, readPolicy}
-use Rattle.model.specs.Decision.{Slices, Lent, Taken, accepted, refusedOn, requestUnder, withdrawalsUnder, sided, readSlices}
-use Rattle.model.specs.Decision.{Verdict, refusal, Report, capacity, room, word, untouched, reported, decisionOf, decision}
-use Rattle.model.specs.Theorems.{ReadAs, AskedAs, Inputs, IsDecision}
+use Rattle.model.specs.Decision.{Slices, Lent, Taken, accepted, refusedOn, requestUnder, withdrawalsUnder, hierarchyUnder, sided}
+use Rattle.model.specs.Decision.{readSlices, Verdict, refusal, Report, capacity, room, word, untouched, reported, decisionOf, decision}
+use Rattle.model.specs.Theorems.{ReadAs, AskedAs, WithdrawnAs, Inputs, IsDecision}
 use Rattle.model.proofs.ListFacts.{member-of}
-use Rattle.model.proofs.DecisionFacts.{afterRequest, afterPolicy, on-policy, on-request}
+use Rattle.model.proofs.DecisionFacts.{afterWithdrawals, afterRequest, afterPolicy, on-policy, on-request, on-withdrawals}
 use Rattle.demands.specs.Demands.{Answered}
-use Rattle.demands.proofs.Numbers.{RefusesBy, ofPolicy, ofRequest, ofWithdrawals, policy-numbers, request-numbers, withdrawals-numbers}
+use Rattle.demands.proofs.Numbers.{RefusesBy, ofPolicy, ofRequest, ofWithdrawals, ofHierarchy}
+use Rattle.demands.proofs.Numbers.{policy-numbers, request-numbers, withdrawals-numbers, hierarchy-numbers}
 
 -- ---- verdicts differ
 
@@ -116,14 +117,19 @@ module _ (l : Lent) where
       sided-answered 1 (λ (A : Accepted). afterPolicy s (policyOf A)) (readPolicy (s .policy)) l ofPolicy (policy-numbers (s .policy)) (λ n p m. m)
       (λ A. let P = policyOf A in
       sided-answered 2 (afterRequest s P) (requestUnder P s) l ofRequest (request-numbers (P .constants) (P .verbs) (s .request)) (λ n p m. m)
-      (λ q. sided-answered 3 (λ (ws : List Withdrawal). accepted (read P q ws)) (withdrawalsUnder P s) l ofWithdrawals
+      (λ q. sided-answered 3 (afterWithdrawals s P q) (withdrawalsUnder P s) l ofWithdrawals
       (withdrawals-numbers (P .constants) (s .withdrawals)) (λ n p m. m)
-      (λ ws. accepted-answered (read P q ws) l)))
+      (λ ws. sided-answered 4 (λ (H : List Link). accepted (read P q ws H)) (hierarchyUnder P s) l ofHierarchy
+      (hierarchy-numbers (P .constants) (P .verbs) (s .hierarchy)) (λ n p m. m)
+      (λ H. accepted-answered (read P q ws H) l))))
 
   -- what is read after a slice has none of the sides before
-  later-sides : (P : Policy) (q : Request) (n t p : ℕ) → (3 ≡ t → ⊥) → afterRequest s P q ≡ refusedOn n t p → ⊥
-  later-sides P q n t p d =
-      sided-other 3 (λ (ws : List Withdrawal). accepted (read P q ws)) (withdrawalsUnder P s) n t p d (λ ws. not-refused (read P q ws) n t p)
+  last-side : (P : Policy) (q : Request) (ws : List Withdrawal) (n t p : ℕ) → (4 ≡ t → ⊥) → afterWithdrawals s P q ws ≡ refusedOn n t p → ⊥
+  last-side P q ws n t p d =
+      sided-other 4 (λ (H : List Link). accepted (read P q ws H)) (hierarchyUnder P s) n t p d (λ H. not-refused (read P q ws H) n t p)
+
+  later-sides : (P : Policy) (q : Request) (n t p : ℕ) → (3 ≡ t → ⊥) → (4 ≡ t → ⊥) → afterRequest s P q ≡ refusedOn n t p → ⊥
+  later-sides P q n t p d e = sided-other 3 (afterWithdrawals s P q) (withdrawalsUnder P s) n t p d (λ ws. last-side P q ws n t p e)
 
   pub policy-kept : (n p : ℕ) → readPolicy (s .policy) ≡ refused n p → made ≡ untouched n 1 p l
   unfolding decision readSlices sided
@@ -134,7 +140,7 @@ module _ (l : Lent) where
   policy-side n p = (
     λ e. sided-refused 1 (λ (A : Accepted). afterPolicy s (policyOf A)) (readPolicy (s .policy)) n p
         (λ A. let P = policyOf A in sided-other 2 (afterRequest s P) (requestUnder P s) n 1 p (λ z. omega arith)
-        (λ q. later-sides P q n 1 p (λ z. omega arith))) (of-side (readSlices s) l n 0 p e),
+        (λ q. later-sides P q n 1 p (λ z. omega arith) (λ z. omega arith))) (of-side (readSlices s) l n 0 p e),
     λ e. ap (λ (ρ : Report). ρ .verdict) (policy-kept n p e),
   )
 
@@ -146,7 +152,7 @@ module _ (l : Lent) where
   pub request-side : (P : Policy) → ReadAs (s .policy) P → (n p : ℕ) → (made .verdict ≡ refusal n 2 p) ↔ (requestUnder P s ≡ refused n p)
   unfolding decision
   request-side P h n p = (
-    λ e. sided-refused 2 (afterRequest s P) (requestUnder P s) n p (λ q. later-sides P q n 2 p (λ z. omega arith))
+    λ e. sided-refused 2 (afterRequest s P) (requestUnder P s) n p (λ q. later-sides P q n 2 p (λ z. omega arith) (λ z. omega arith))
         (sym (on-policy s P h) ∙ of-side (readSlices s) l n 1 p e),
     λ e. ap (λ (ρ : Report). ρ .verdict) (request-kept P h n p e),
   )
@@ -155,16 +161,30 @@ module _ (l : Lent) where
     pub withdrawals-kept : (n p : ℕ) → withdrawalsUnder P s ≡ refused n p → made ≡ untouched n 3 p l
     unfolding decision sided
     withdrawals-kept n p e =
-        of-kept (readSlices s) l n 3 p (on-request s P q h k
-        ∙ ap (λ (r : Reading (List Withdrawal)). sided 3 r (λ (ws : List Withdrawal). accepted (read P q ws))) e)
+        of-kept (readSlices s) l n 3 p (on-request s P q h k ∙ ap (λ (r : Reading (List Withdrawal)). sided 3 r (afterWithdrawals s P q)) e)
 
     pub withdrawals-side : (n p : ℕ) → (made .verdict ≡ refusal n 3 p) ↔ (withdrawalsUnder P s ≡ refused n p)
     unfolding decision
     withdrawals-side n p = (
-      λ e. sided-refused 3 (λ (ws : List Withdrawal). accepted (read P q ws)) (withdrawalsUnder P s) n p (λ ws. not-refused (read P q ws) n 3 p)
+      λ e. sided-refused 3 (afterWithdrawals s P q) (withdrawalsUnder P s) n p (λ ws. last-side P q ws n 3 p (λ z. omega arith))
           (sym (on-request s P q h k) ∙ of-side (readSlices s) l n 2 p e),
       λ e. ap (λ (ρ : Report). ρ .verdict) (withdrawals-kept n p e),
     )
+
+    module _ (ws : List Withdrawal) (w : WithdrawnAs P (s .withdrawals) ws) where
+      pub hierarchy-kept : (n p : ℕ) → hierarchyUnder P s ≡ refused n p → made ≡ untouched n 4 p l
+      unfolding decision sided
+      hierarchy-kept n p e =
+          of-kept (readSlices s) l n 4 p (on-withdrawals s P q ws h k w
+          ∙ ap (λ (r : Reading (List Link)). sided 4 r (λ (H : List Link). accepted (read P q ws H))) e)
+
+      pub hierarchy-side : (n p : ℕ) → (made .verdict ≡ refusal n 4 p) ↔ (hierarchyUnder P s ≡ refused n p)
+      unfolding decision
+      hierarchy-side n p = (
+        λ e. sided-refused 4 (λ (H : List Link). accepted (read P q ws H)) (hierarchyUnder P s) n p (λ H. not-refused (read P q ws H) n 4 p)
+            (sym (on-withdrawals s P q ws h k w) ∙ of-side (readSlices s) l n 3 p e),
+        λ e. ap (λ (ρ : Report). ρ .verdict) (hierarchy-kept n p e),
+      )
 
   -- a decision is on inputs that were accepted
   pub was-accepted : IsDecision (made .verdict) → (R : Read) × Inputs s R

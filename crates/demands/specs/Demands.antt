@@ -1,5 +1,5 @@
--- The three demands, and what request 02 adds, as statements about calls of the engine. `proofs/Demands.antt` has a proof of each, under the same name with a
--- small first letter.
+-- The three demands, and what requests 02 and 05 add, as statements about calls of the engine. `proofs/Demands.antt` has a proof of each, under the same name
+-- with a small first letter.
 use mathlib.Core.Path.{_≡_}
 use mathlib.Core.Logic.{_↔_, _⊎_}
 use mathlib.Core.List.{List, [], _∷_, List·Memᴰ}
@@ -8,7 +8,7 @@ use lib.ListN.{length, take, drop}
 use lib.Dec.{T}
 use Rattle.model.specs.Limits.{recordBytes, answerBytes}
 use Rattle.model.specs.Lists.{before}
-use Rattle.model.specs.Syntax.{con, Constraint, Assertion, Withdrawal, Policy, Request, Read, worldIn, Said}
+use Rattle.model.specs.Syntax.{con, Constraint, Assertion, Withdrawal, Link, Policy, Request, Read, worldIn, Said}
 use Rattle.model.specs.Values.{passes}
 use Rattle.model.specs.Withdrawals.{noBinding, leftIn}
 use Rattle.model.specs.Records.{Entry, recordOf}
@@ -16,9 +16,10 @@ use Rattle.model.specs.Meant.{MoreThan, AtMost}
 use Rattle.model.specs.Deciding.{read, countedIn}
 use Rattle.model.specs.Bytes.{byteAt, refused}
 use Rattle.model.specs.Layout.{readPolicy}
-use Rattle.model.specs.Decision.{Slices, Lent, requestUnder, withdrawalsUnder, Verdict, allow, deny, refusal, Report, report, capacity, room, cleared}
-use Rattle.model.specs.Decision.{untouched, decision}
-use Rattle.model.specs.Theorems.{ReadAs, AskedAs, Inputs, DerivableIn, EntryIn, AnswerIn, InReach, Longer, withPolicy, IssuedOutside, Anyone, Positive}
+use Rattle.model.specs.Decision.{Slices, Lent, requestUnder, withdrawalsUnder, hierarchyUnder, Verdict, allow, deny, refusal, Report, report, capacity}
+use Rattle.model.specs.Decision.{room, cleared, untouched, decision}
+use Rattle.model.specs.Theorems.{ReadAs, AskedAs, WithdrawnAs, RankedAs, Inputs, DerivableIn, EntryIn, AnswerIn, InReach, Longer, withPolicy, IssuedOutside}
+use Rattle.model.specs.Theorems.{Anyone, Positive, Ground, NoHierarchy, ComputedDescendants}
 use Rattle.model.specs.Theorems.{IsDecision, answerIn, ListedIn, RecordsTell, Insiders, withoutEntries, withWithdrawals, withAssertions, withoutSerials}
 use Rattle.demands.specs.Lookups.{Reached, whoseWords}
 
@@ -72,7 +73,7 @@ pub record AnswersOf (l : Lent) (R : Read) (ρ : Report) : Type 0 where
 -- The contract is an equation for every call, and that the code ends is proved with it. What the equation says:
 
 -- a decision, or a refusal with a number of its side: the state's 8 and 9, the policy's 1 to 6, the request's 1, 2, 3, 5 and 7, the withdrawals' 1, 2, 3, 5
--- and 10
+-- and 10, the hierarchy's 1, 2, 3, 5 and 11
 abbrev pub Answered : Verdict → Type 0
 Answered allow = Unit {0}
 Answered deny = Unit {0}
@@ -80,7 +81,8 @@ Answered (refusal n zero p) = List·Memᴰ n (8 ∷ 9 ∷ []) × (p ≡ 0)
 Answered (refusal n (suc zero) p) = List·Memᴰ n (1 ∷ 2 ∷ 3 ∷ 4 ∷ 5 ∷ 6 ∷ [])
 Answered (refusal n (suc (suc zero)) p) = List·Memᴰ n (1 ∷ 2 ∷ 3 ∷ 5 ∷ 7 ∷ [])
 Answered (refusal n (suc (suc (suc zero))) p) = List·Memᴰ n (1 ∷ 2 ∷ 3 ∷ 5 ∷ 10 ∷ [])
-Answered (refusal n (suc (suc (suc (suc s)))) p) = ⊥
+Answered (refusal n (suc (suc (suc (suc zero)))) p) = List·Memᴰ n (1 ∷ 2 ∷ 3 ∷ 5 ∷ 11 ∷ [])
+Answered (refusal n (suc (suc (suc (suc (suc s))))) p) = ⊥
 
 pub record AnsweredAs (l : Lent) (ρ : Report) : Type 0 where
   pub answered : Answered (ρ .verdict)
@@ -97,6 +99,13 @@ pub record AnsweredAs (l : Lent) (ρ : Report) : Type 0 where
       → (n p : ℕ) → (ρ .verdict ≡ refusal n 3 p) ↔ (withdrawalsUnder P (l .slices) ≡ refused n p)
   pub withdrawalsKeeps : (P : Policy) (q : Request) → ReadAs (l .slices .policy) P → AskedAs P (l .slices .request) q
       → (n p : ℕ) → withdrawalsUnder P (l .slices) ≡ refused n p → ρ ≡ untouched n 3 p l
+  -- side 4, where those before are accepted, exactly if the reader of the hierarchy refuses
+  pub hierarchySide : (P : Policy) (q : Request) (ws : List Withdrawal)
+      → ReadAs (l .slices .policy) P → AskedAs P (l .slices .request) q → WithdrawnAs P (l .slices .withdrawals) ws
+      → (n p : ℕ) → (ρ .verdict ≡ refusal n 4 p) ↔ (hierarchyUnder P (l .slices) ≡ refused n p)
+  pub hierarchyKeeps : (P : Policy) (q : Request) (ws : List Withdrawal)
+      → ReadAs (l .slices .policy) P → AskedAs P (l .slices .request) q → WithdrawnAs P (l .slices .withdrawals) ws
+      → (n p : ℕ) → hierarchyUnder P (l .slices) ≡ refused n p → ρ ≡ untouched n 4 p l
   -- "8 more derivable facts than capacity, and only then: fact buffer all 0, answer buffer untouched, counts 0."
   pub eight : (R : Read) → Inputs (l .slices) R → (ρ .verdict ≡ refusal 8 0 0) ↔ MoreThan (capacity (l .factBuffer)) (DerivableIn R)
   pub eightLeaves : (R : Read) → Inputs (l .slices) R → ρ .verdict ≡ refusal 8 0 0
@@ -115,7 +124,7 @@ EveryInput = (l : Lent) (ρ : Report) → Call l ρ → AnsweredAs l ρ
 
 -- ---- demand 2: "Where a decision is given, the fact table holds a statement exactly if the three published rules derive it from the statements within the
 -- request's reach, with the round in which it first appears; a request is allowed exactly if some binding makes it hold, and all such bindings are listed
--- once, in order."
+-- once, in order." From request 05 on the hierarchy is "a fourth rule beside demand 2's three" (`Rules.Rule`).
 
 abbrev pub TheTable : Type 0
 TheTable = (l : Lent) (R : Read) (ρ : Report) → Call l ρ → Inputs (l .slices) R → IsDecision (ρ .verdict) → TableOf l R ρ
@@ -141,7 +150,8 @@ WhatIsLeft = (R : Read) (a : Assertion) → List·Memᴰ a (leftIn R) ↔ (List�
 abbrev pub TheRecords : Type 0
 TheRecords = ((s : Slices) (R : Read) → Inputs s R → (e : Entry) → EntryIn R e → length (recordOf e) ≡ recordBytes) × RecordsTell
 
--- ---- demand 3, over two calls "on one request, with buffers alike in length and in every byte at entry", "where both runs have the same withdrawals"
+-- ---- demand 3, over two calls "on one request, with buffers alike in length and in every byte at entry", "where both runs have the same withdrawals" and "the
+-- same hierarchy"
 
 -- "If every added issuer is outside the reach in the shorter policy, result and both buffers are the same, byte for byte."
 abbrev pub OutsidersCall : Type 0
@@ -167,13 +177,28 @@ WithdrawnCall = (l : Lent) (other : List ℕ) (R : Read) (L : Policy) (ρ ρ′ 
 
 -- without entries nothing is withdrawn: the slice is accepted, and all of the policy's assertions are left
 abbrev pub WithoutEntries : Type 0
-WithoutEntries = (s : Slices) (P : Policy) (q : Request) → s .withdrawals ≡ withoutEntries → ReadAs (s .policy) P → AskedAs P (s .request) q
-    → Inputs s (read P q []) × (leftIn (read P q []) ≡ P .assertions)
+WithoutEntries = (s : Slices) (P : Policy) (q : Request) (H : List Link)
+    → s .withdrawals ≡ withoutEntries → ReadAs (s .policy) P → AskedAs P (s .request) q → RankedAs P (s .hierarchy) H
+    → Inputs s (read P q [] H) × (leftIn (read P q [] H) ≡ P .assertions)
 
 -- and then "serial (no effect)": two policies alike but for serials give the same report
 abbrev pub SerialsCall : Type 0
 SerialsCall = (l : Lent) (other : List ℕ) (R : Read) (L : Policy) (ρ ρ′ : Report) → Call l ρ → Call (withPolicy other l) ρ′
     → Inputs (l .slices) R → ReadAs other L → R .withdrawals ≡ [] → withoutSerials L ≡ withoutSerials (R .policy) → ρ′ ≡ ρ
+
+-- ---- the hierarchy (request 05): no calls in these, so they stand as in the model
+
+-- without entries the slice is accepted, and each round holds what it holds by the three published rules alone
+abbrev pub WithoutHierarchy : Type 0
+WithoutHierarchy = NoHierarchy
+
+-- descendants, as they are computed, are the least set; so are the facts that a fact covers
+abbrev pub TheDescendants : Type 0
+TheDescendants = ComputedDescendants
+
+-- what is derived is ground: a parameter that is replaced is a constant of the verb's kind
+abbrev pub TheGround : Type 0
+TheGround = Ground
 
 -- ---- whose words count: what a call of `secpal_reach` gives, and what demand 3 makes of it
 

@@ -24,6 +24,10 @@ pub const ASSERTIONS: usize = 256;
 
 pub const WITHDRAWALS: usize = 256;
 
+// ---- request 05: "2-byte count of 0 to 1,024"
+
+pub const HIERARCHY: usize = 1024;
+
 // ---- "arity byte 0 to 3", "a nest byte 0 to 3", "a count byte 0 to 4" of body facts and of constraints, operators 1 to 5
 
 pub const ARITY: usize = 3;
@@ -86,7 +90,7 @@ pub const UNBOUND: usize = 255;
 
 // ---- all of them, in this order: each is the model's
 
-pub fn all() -> [usize; 32]
+pub fn all() -> [usize; 33]
     ensures { λ r. ⌜ r ≡ all ⌝ }
 {
     [
@@ -98,6 +102,7 @@ pub fn all() -> [usize; 32]
         VERBS,
         ASSERTIONS,
         WITHDRAWALS,
+        HIERARCHY,
         ARITY,
         NEST,
         BODY,

@@ -12,23 +12,24 @@ use Rattle.model.specs.Reader.{sized, times, items, byte, u16, u32, byte
 use Rattle.model.specs.Calendar.{daysOfYears, daysOfMonths, dateOf, yearAfter}
 use Rattle.model.specs.Values.{lower}
 use Rattle.model.specs.Layout.{Accepted, policyOf, label, constant, verb, expr, constraint, levels, fact, assertion, constantItem, verbItem}
-use Rattle.model.specs.Layout.{assertionItem, withdrawal, withdrawalItem, asking, parts, node, slice, readPolicy, readRequest, readWithdrawals}
+use Rattle.model.specs.Layout.{assertionItem, withdrawal, withdrawalItem, linked, linkItem, asking, parts, node, slice}
+use Rattle.model.specs.Layout.{readPolicy, readRequest, readWithdrawals, readHierarchy}
 use Rattle.model.specs.Deciding.{read}
 use Rattle.model.specs.Decision.{sided, readSlices, decisionOf, decision}
 use Rattle.model.specs.Theorems.{done, keeps, adds}
 use Rattle.model.proofs.ListFacts.{member-in}
 use Rattle.model.proofs.ReachFacts.{reach-in}
-use Rattle.model.specs.Cases.{P, Q, longerP, Belt, Turnings, Readings, Withdrawing, BeltPair}
+use Rattle.model.specs.Cases.{P, Q, longerP, Belt, Turnings, Readings, Withdrawing, Inheriting, BeltPair}
 
-rows : Belt × Turnings × Readings × Withdrawing
+rows : Belt × Turnings × Readings × Withdrawing × Inheriting
 unfolding
     u16At u32At choose andThen
     sized times items byte u16 u32 byteIn rest list
     label constant verb expr constraint levels fact assertion constantItem verbItem assertionItem asking parts node slice readPolicy readRequest
-    withdrawal withdrawalItem readWithdrawals
+    withdrawal withdrawalItem readWithdrawals linked linkItem readHierarchy
     daysOfYears daysOfMonths dateOf yearAfter lower
     sided readSlices decisionOf decision
-rows = (refl, refl, refl, refl)
+rows = (refl, refl, refl, refl, (refl, refl))
 
 pub belt : Belt
 belt = rows .0
@@ -41,6 +42,9 @@ readings = rows .2
 
 pub withdrawing : Withdrawing
 withdrawing = rows .3
+
+pub inheriting : Inheriting
+inheriting = rows .4
 
 -- ---- demand 3 on the belt
 
@@ -75,10 +79,10 @@ unfolding
     u16At u32At choose andThen
     sized times items byte u16 u32 byteIn rest list
     label constant verb expr constraint levels fact assertion constantItem verbItem assertionItem asking parts node slice readPolicy readRequest
-    withdrawal withdrawalItem readWithdrawals lower
+    withdrawal withdrawalItem readWithdrawals linked linkItem readHierarchy lower
     sided readSlices decisionOf decision
 beltPair = record {
-  shorter = read short asked [];
+  shorter = read short asked [] [];
   longer = long;
   inputs = refl;
   longerRead = (accepted (readPolicy longerP), 130, refl, refl);

@@ -9,7 +9,7 @@ use lib.ListN.{length, take, drop, getD}
 use lib.Seq.{take-at, drop-at, drop-drop}
 use Rattle.model.specs.Limits.{answerBytes}
 use Rattle.model.specs.Lists.{each, sorted}
-use Rattle.model.specs.Syntax.{Assertion, Withdrawal, Policy, Request, Node, World, Read, worldIn}
+use Rattle.model.specs.Syntax.{Assertion, Withdrawal, Link, Policy, Request, Node, World, Read, worldIn}
 use Rattle.model.specs.Rules.{Rule}
 use Rattle.model.specs.Records.{Entry, keyOf, answerOf, answersBytes}
 use Rattle.model.specs.Meant.{Outcome, tooManyFacts, tooManyAnswers, decided}
@@ -19,9 +19,9 @@ use Rattle.model.specs.Deciding.{outcome, decide, read, countedIn}
 use Rattle.model.specs.Bytes.{Reading, got, refused}
 use Rattle.model.specs.Policies.{Accepted, policyOf, readPolicy}
 use Rattle.model.specs.Nodes.{readRequest}
-use Rattle.model.specs.Decision.{Slices, Lent, Taken, accepted, refusedOn, requestUnder, withdrawalsUnder, sided, readSlices}
-use Rattle.model.specs.Decision.{Report, capacity, room, reported, decisionOf, decision}
-use Rattle.model.specs.Theorems.{ReadAs, AskedAs, WithdrawnAs, Inputs, InputsBySlice, answerIn}
+use Rattle.model.specs.Decision.{Slices, Lent, Taken, accepted, refusedOn, requestUnder, withdrawalsUnder, hierarchyUnder, sided}
+use Rattle.model.specs.Decision.{readSlices, Report, capacity, room, reported, decisionOf, decision}
+use Rattle.model.specs.Theorems.{ReadAs, AskedAs, WithdrawnAs, RankedAs, Inputs, InputsBySlice, answerIn}
 use Rattle.model.proofs.RoundFacts as S
 use Rattle.model.proofs.StepFacts.{eqSaid-of, eqSaid-refl, step-of, step-in}
 use Rattle.model.proofs.OutcomeFacts.{sorted-length, sorted-round, Result, over, many, fine, result, found}
@@ -40,9 +40,12 @@ unfolding sided
 sided-accepted side (got a e) next R h = (a, e, refl, h)
 sided-accepted side (refused n p) next R h = absurd (not-accepted n side p R h)
 
--- what is read after the request, and after the policy
+-- what is read after the withdrawals, after the request, and after the policy
+abbrev pub afterWithdrawals : Slices → Policy → Request → List Withdrawal → Taken
+afterWithdrawals s P q ws = sided 4 (hierarchyUnder P s) (λ (H : List Link). accepted (read P q ws H))
+
 abbrev pub afterRequest : Slices → Policy → Request → Taken
-afterRequest s P q = sided 3 (withdrawalsUnder P s) (λ (ws : List Withdrawal). accepted (read P q ws))
+afterRequest s P q = sided 3 (withdrawalsUnder P s) (afterWithdrawals s P q)
 
 abbrev pub afterPolicy : Slices → Policy → Taken
 afterPolicy s P = sided 2 (requestUnder P s) (afterRequest s P)
@@ -55,27 +58,34 @@ pub on-request : (s : Slices) (P : Policy) (q : Request) → ReadAs (s .policy) 
 unfolding sided
 on-request s P q h k = on-policy s P h ∙ ap (λ (r : Reading Request). sided 2 r (afterRequest s P)) (k .1)
 
+pub on-withdrawals : (s : Slices) (P : Policy) (q : Request) (ws : List Withdrawal)
+    → ReadAs (s .policy) P → AskedAs P (s .request) q → WithdrawnAs P (s .withdrawals) ws → readSlices s ≡ afterWithdrawals s P q ws
+unfolding sided
+on-withdrawals s P q ws h k w = on-request s P q h k ∙ ap (λ (r : Reading (List Withdrawal)). sided 3 r (afterWithdrawals s P q)) (w .1)
+
 pub slice-by-slice : (s : Slices) (R : Read) → Inputs s R → InputsBySlice s R
 unfolding readSlices
 slice-by-slice s R h =
     let k = sided-accepted 1 (readPolicy (s .policy)) (λ (A : Accepted). afterPolicy s (policyOf A)) R h in
     let P = policyOf (k .0) in
     let m = sided-accepted 2 (requestUnder P s) (afterRequest s P) R (k .3) in
-    let w = sided-accepted 3 (withdrawalsUnder P s) (λ (ws : List Withdrawal). accepted (read P (m .0) ws)) R (m .3) in
-    let same = accepted-same (read P (m .0) (w .0)) R (w .3) in
+    let w = sided-accepted 3 (withdrawalsUnder P s) (afterWithdrawals s P (m .0)) R (m .3) in
+    let r = sided-accepted 4 (hierarchyUnder P s) (λ (H : List Link). accepted (read P (m .0) (w .0) H)) R (w .3) in
+    let same = accepted-same (read P (m .0) (w .0) (r .0)) R (r .3) in
     let policy = ap (λ (S : Read). S .policy) same in
     record {
       readAs = (k .0, k .1, k .2, policy);
       askedAs = subst (λ (P : Policy). AskedAs P (s .request) (R .request)) policy (m .1, m .2 ∙ ap (λ (S : Read). got (S .request) (m .1)) same);
       withdrawnAs = subst (λ (P : Policy). WithdrawnAs P (s .withdrawals) (R .withdrawals)) policy
           (w .1, w .2 ∙ ap (λ (S : Read). got (S .withdrawals) (w .1)) same);
+      rankedAs = subst (λ (P : Policy). RankedAs P (s .hierarchy) (R .hierarchy)) policy (r .1, r .2 ∙ ap (λ (S : Read). got (S .hierarchy) (r .1)) same);
     }
 
 pub of-slices : (s : Slices) (R : Read) → InputsBySlice s R → Inputs s R
 unfolding sided
 of-slices s R h =
-    on-request s (R .policy) (R .request) (h .readAs) (h .askedAs)
-    ∙ ap (λ (r : Reading (List Withdrawal)). sided 3 r (λ (ws : List Withdrawal). accepted (read (R .policy) (R .request) ws))) (h .withdrawnAs .1)
+    on-withdrawals s (R .policy) (R .request) (R .withdrawals) (h .readAs) (h .askedAs) (h .withdrawnAs)
+    ∙ ap (λ (r : Reading (List Link)). sided 4 r (λ (H : List Link). accepted (read (R .policy) (R .request) (R .withdrawals) H))) (h .rankedAs .1)
 
 pub reports : (l : Lent) (R : Read) → Inputs (l .slices) R
     → decision l ≡ reported (decide R (capacity (l .factBuffer)) (room (l .answerBuffer))) l

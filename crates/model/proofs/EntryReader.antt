@@ -1,25 +1,26 @@
 -- The slices of entries: `Layout`'s readers are the computed ones for every byte list.
 use mathlib.Core.Path.{_≡_, refl, sym, ap, _∙_}
 use mathlib.Core.List.{List}
-use mathlib.Core.Bool.{Bool, true, false}
+use mathlib.Core.Bool.{Bool, true, false, not}
 use Prim.Native.Nat.{ℕ, _+_, _*_, _<_, _≤_}
 use native.Mathlib.Decide.{decLt}
 use native.Mathlib.Omega.{arith}
 use lib.ListN.{length}
-use lib.Dec.{eqb, ltb}
-use borrow.Author.Tests.{lt-ltb, le-ltb}
-use Rattle.model.specs.Limits.{maxWithdrawals, maxConstraints, version, headerBytes}
-use Rattle.model.specs.Syntax.{Expr, Constraint, Withdrawal, Constant, varsWithdrawal}
-use Rattle.model.specs.Kinds.{withdrawalDemands, fitting}
-use Rattle.model.specs.Bytes.{byteAt, u32At, choose, Reading, got, refused, andThen}
+use lib.Dec.{eqb, ltb, leb}
+use borrow.Author.Tests.{lt-ltb, le-ltb, le-leb, lt-leb}
+use Rattle.model.specs.Limits.{maxWithdrawals, maxLinks, linkBytes, maxConstraints, version, headerBytes}
+use Rattle.model.specs.Syntax.{Expr, Constraint, Withdrawal, Link, Constant, Verb, varsWithdrawal}
+use Rattle.model.specs.Kinds.{withdrawalDemands, fitting, fitsLink}
+use Rattle.model.specs.Bytes.{byteAt, u16At, u32At, choose, Reading, got, refused, andThen}
 use Rattle.model.specs.Readings.{exprAt, constraintsAt}
 use Rattle.model.specs.Forms.{operatorsForm}
 use Rattle.model.specs.Policies.{contents, ended}
-use Rattle.model.specs.Reader.{times, u32, byteIn}
-use Rattle.model.specs.Layout.{expr, constraint, withdrawal, withdrawalItem}
+use Rattle.model.specs.Reader.{times, byte, u16, u32, byteIn}
+use Rattle.model.specs.Layout.{expr, constraint, withdrawal, withdrawalItem, linked, linkItem}
 use Rattle.model.specs.Entries.{withdrawalEnd, withdrawalAt, withdrawalForm, computedWithdrawals, readWithdrawals}
+use Rattle.model.specs.Entries.{linkAt, linkJudged, computedHierarchy, readHierarchy}
 use Rattle.model.specs.Entries as entries
-use Rattle.model.proofs.ReaderLaws.{then-in, then-out, choose-true, choose-false, u32-in, u32-out, upto-in, upto-out}
+use Rattle.model.proofs.ReaderLaws.{then-in, then-out, choose-true, choose-false, byte-in, byte-out, u16-in, u16-out, u32-in, u32-out, upto-in, upto-out}
 use Rattle.model.proofs.FactReader.{expr-in, expr-out}
 use Rattle.model.proofs.AssertionReader.{constraints-in, constraints-out}
 use Rattle.model.proofs.PolicyReader.{list-is, then-same, slice-is, ended-is}
@@ -126,3 +127,103 @@ withdrawals-is cs s = slice-is version s _ _
     (then-same _ _
     (list-is s (withdrawalItem s cs) (entries.withdrawalItem cs s) (λ earlier p. withdrawalItem-is s p cs earlier) 0 maxWithdrawals 0 headerBytes)
     (λ ws p. ended-is s (contents ws) 0 p))
+
+-- ---- the hierarchy
+
+module _ (vs : List Verb) (s : List ℕ) (at : ℕ) where
+  -- an entry from its parent on, and from its position on
+  abbrev fromParent : ℕ → ℕ → ℕ → Reading Link
+  fromParent v k q = andThen (u16 s at (length s) q) (λ p z. andThen (u16 s at (length s) z)
+      (λ c z. got (record { verb = v; position = k; parent = p; child = c }) z))
+
+  abbrev fromPosition : ℕ → ℕ → Reading Link
+  fromPosition v q = andThen (byte s at (length s) q) (fromParent v)
+
+  abbrev fromVerb : ℕ → ℕ → Reading Link
+  fromVerb v q = andThen (choose (leb v (length vs)) (got tt q) (refused 5 at)) (λ (x : Unit {0}) z. fromPosition v z)
+
+  position-in : at + linkBytes ≤ length s → fromPosition (byteAt s at) (at + 1) ≡ got (linkAt s at) (at + linkBytes)
+  unfolding linkAt
+  position-in h =
+      then-in _ (byte-in s at (length s) (at + 1) (at + 2) (omega arith) (omega arith))
+      ∙ then-in _ (u16-in s at (length s) (at + 2) (at + 4) (omega arith) (omega arith))
+      ∙ then-in _ (u16-in s at (length s) (at + 4) (at + 6) (omega arith) (omega arith))
+
+  position-out : length s < at + linkBytes → fromPosition (byteAt s at) (at + 1) ≡ refused 3 at
+  position-out h = go (decLt (length s) (at + 2)) (decLt (length s) (at + 4))
+    where
+      go : Dec (length s < at + 2) → Dec (length s < at + 4) → fromPosition (byteAt s at) (at + 1) ≡ refused 3 at
+      go (yes k) d = then-out _ (byte-out s at (length s) (at + 1) (omega arith))
+      go (no k) (yes l) =
+          then-in _ (byte-in s at (length s) (at + 1) (at + 2) (omega arith) (omega arith)) ∙ then-out _ (u16-out s at (length s) (at + 2) (omega arith))
+      go (no k) (no l) =
+          then-in _ (byte-in s at (length s) (at + 1) (at + 2) (omega arith) (omega arith))
+          ∙ then-in _ (u16-in s at (length s) (at + 2) (at + 4) (omega arith) (omega arith))
+          ∙ then-out _ (u16-out s at (length s) (at + 4) (omega arith))
+
+  position-is : fromPosition (byteAt s at) (at + 1)
+      ≡ choose (ltb (length s) (at + linkBytes)) (refused 3 at) (got (linkAt s at) (at + linkBytes))
+  position-is = go (decLt (length s) (at + linkBytes))
+    where
+      go : Dec (length s < at + linkBytes) → fromPosition (byteAt s at) (at + 1)
+          ≡ choose (ltb (length s) (at + linkBytes)) (refused 3 at) (got (linkAt s at) (at + linkBytes))
+      go (yes h) = position-out h ∙ sym (choose-true _ _ (lt-ltb (length s) (at + linkBytes) h))
+      go (no h) = position-in (omega arith) ∙ sym (choose-false _ _ (le-ltb (length s) (at + linkBytes) (omega arith)))
+
+  verb-is : fromVerb (byteAt s at) (at + 1) ≡ choose (ltb (length vs) (byteAt s at)) (refused 5 at) (fromPosition (byteAt s at) (at + 1))
+  verb-is = go (decLt (length vs) (byteAt s at))
+    where
+      go : Dec (length vs < byteAt s at) → fromVerb (byteAt s at) (at + 1)
+          ≡ choose (ltb (length vs) (byteAt s at)) (refused 5 at) (fromPosition (byteAt s at) (at + 1))
+      go (yes h) =
+          then-out _ (choose-false _ _ (lt-leb (byteAt s at) (length vs) h)) ∙ sym (choose-true _ _ (lt-ltb (length vs) (byteAt s at) h))
+      go (no h) =
+          let l : byteAt s at ≤ length vs = omega arith in
+          then-in _ (choose-true _ _ (le-leb (byteAt s at) (length vs) l)) ∙ sym (choose-false _ _ (le-ltb (length vs) (byteAt s at) l))
+
+  linked-is : linked s vs at (length s) at ≡ choose (ltb (length s) (at + 1)) (refused 3 at)
+      (choose (ltb (length vs) (byteAt s at)) (refused 5 at)
+      (choose (ltb (length s) (at + linkBytes)) (refused 3 at) (got (linkAt s at) (at + linkBytes))))
+  unfolding linked
+  linked-is = go (decLt (length s) (at + 1))
+    where
+      go : Dec (length s < at + 1) → linked s vs at (length s) at ≡ choose (ltb (length s) (at + 1)) (refused 3 at)
+          (choose (ltb (length vs) (byteAt s at)) (refused 5 at)
+          (choose (ltb (length s) (at + linkBytes)) (refused 3 at) (got (linkAt s at) (at + linkBytes))))
+      go (yes h) = then-out _ (byte-out s at (length s) at (omega arith)) ∙ sym (choose-true _ _ (lt-ltb (length s) (at + 1) h))
+      go (no h) =
+          then-in _ (byte-in s at (length s) at (at + 1) refl (omega arith))
+          ∙ verb-is
+          ∙ ap (choose (ltb (length vs) (byteAt s at)) (refused 5 at)) position-is
+          ∙ sym (choose-false _ _ (le-ltb (length s) (at + 1) (omega arith)))
+
+  -- "5 .., 11 .. after 5 in its entry"
+  pub linkItem-is : (cs : List Constant) (earlier : List Link) → linkItem s cs vs earlier at (length s) at ≡ entries.linkItem cs vs s earlier at
+  unfolding linkItem entries.linkItem linkJudged andThen choose
+  linkItem-is cs earlier = ap (λ (t : Reading Link). andThen t checked) linked-is
+      ∙ go (ltb (length s) (at + 1)) (ltb (length vs) (byteAt s at)) (ltb (length s) (at + linkBytes)) (fitsLink cs vs l) (eqb (l .parent) (l .child)) refl refl
+    where
+      l : Link
+      l = linkAt s at
+
+      checked : Link → ℕ → Reading Link
+      checked l q = andThen (choose (fitsLink cs vs l) (got tt q) (refused 5 at))
+          (λ (x : Unit {0}) z. andThen (choose (not (eqb (l .parent) (l .child))) (got tt z) (refused 11 at)) (λ (y : Unit {0}) z. got l z))
+
+      go : (a b c d e : Bool) → fitsLink cs vs l ≡ d → eqb (l .parent) (l .child) ≡ e
+          → andThen (choose a (refused 3 at) (choose b (refused 5 at) (choose c (refused 3 at) (got l (at + linkBytes))))) checked
+          ≡ choose a (refused 3 at) (choose b (refused 5 at) (choose c (refused 3 at)
+          (choose d (choose e (refused 11 at) (got l (at + linkBytes))) (refused 5 at))))
+      go true b c d e f g = refl
+      go false true c d e f g = refl
+      go false false true d e f g = refl
+      go false false false true true f g = rw (f, g)
+      go false false false true false f g = rw (f, g)
+      go false false false false e f g = rw f
+
+-- the reader in one walk is the computed one
+pub hierarchy-is : (cs : List Constant) (vs : List Verb) (s : List ℕ) → readHierarchy cs vs s ≡ computedHierarchy cs vs s
+unfolding readHierarchy computedHierarchy
+hierarchy-is cs vs s = slice-is version s _ _
+    (then-same _ _ (list-is s (linkItem s cs vs) (entries.linkItem cs vs s) (λ earlier p. linkItem-is vs s p cs earlier) 0 maxLinks 0 headerBytes)
+    (λ ls p. ended-is s (contents ls) 0 p))

@@ -14,17 +14,18 @@ use Rattle.model.specs.Kinds.{kindAt, paramKinds, Demands, demandsOf, pl
 use Rattle.model.specs.Values.{bound}
 use Rattle.model.specs.Binding.{Fits, Binds, inPlaces}
 use Rattle.model.specs.Closure.{by}
-use Rattle.model.specs.Rules.{Rule, cond, canSays, actsAs}
+use Rattle.model.specs.Rules.{Rule, cond, canSays, actsAs, covers}
 use Rattle.model.specs.Records.{Arity}
 use Rattle.model.specs.Deciding.{countedIn}
 use Rattle.model.specs.Forms.{isKind}
-use Rattle.model.specs.Theorems.{ReadAs, DerivableIn, GroundFact, GroundSaid}
+use Rattle.model.specs.Theorems.{ReadAs, RankedAs, DerivableIn, GroundFact, GroundSaid}
 use Rattle.model.proofs.ListFacts.{and-of, all-of, each-in, eqb-in, or-left, member-of, member-in}
 use Rattle.model.proofs.ReadFacts.{Fine, policy-fine}
 use Rattle.model.proofs.WithdrawalFacts.{counted-in}
 use Rattle.model.proofs.ProperRequests.{policy-kinded}
 use Rattle.model.proofs.BoundVariables.{kindedAt, facts-kinded, instances}
 use Rattle.model.proofs.ByteFacts.{below-length}
+use Rattle.model.proofs.LinkFacts.{links-fit, covers-ground}
 
 some-kind : (k : ℕ) → T (isKind k) → ¬ (k ≡ 0)
 some-kind k i z = let o : 1 ≤ k = leb→le 1 k (and-of (leb 1 k) (leb k quantity) i .0) in omega arith
@@ -62,7 +63,7 @@ about-ground cs vs b c (canSay s d f) e g = (e, g .1)
 
 -- ---- the rules
 
-module _ (policy : List ℕ) (R : Read) (r : ReadAs policy (R .policy)) where
+module _ (policy hierarchy : List ℕ) (R : Read) (r : ReadAs policy (R .policy)) (k : RankedAs (R .policy) hierarchy (R .hierarchy)) where
   abbrev P : Policy
   P = R .policy
 
@@ -106,6 +107,9 @@ module _ (policy : List ℕ) (R : Read) (r : ReadAs policy (R .policy)) where
       let g = h (said a d (flat b canActAs (c ∷ []))) (List·Memᴰ·head refl) in
       let k = h (said a d (about c f)) (List·Memᴰ·tail (List·Memᴰ·head refl)) in
       (g .0, g .1, about-ground cs vs b c f (g .2 .0) (k .2))
+  rule-ground (covers {a} {d} {f} c) h =
+      let g = h (said a d f) (List·Memᴰ·head refl) in
+      (g .0, g .1, covers-ground cs vs (R .hierarchy) (links-fit cs vs hierarchy (R .hierarchy) (k .0) (k .1)) c (g .2))
 
   pub grounded : (x : Said) → DerivableIn R x → GroundSaid W x
   grounded x (by r h) = rule-ground r (λ y e. grounded y (h y e))

@@ -8,11 +8,12 @@ use lib.ListN.{length, getD}
 use lib.Dec.{eqb, eqb-refl}
 use Rattle.model.specs.Limits.{principal, unlimited, unbound}
 use Rattle.model.specs.Lists.{each}
-use Rattle.model.specs.Syntax.{Expr, con, var, today, Fact, flat, canSay, mapFact, subject, about, Constant, Verb, Assertion, World, Said, said}
+use Rattle.model.specs.Syntax.{Expr, con, var, today, Fact, flat, canSay, mapFact, subject, about, Constant, Verb, Assertion, Link, World, Said, said}
 use Rattle.model.specs.Kinds.{kindOf, variables, places, pair, paramKinds}
 use Rattle.model.specs.Values.{bound, choices, bindings, bindingsOf, kindsOf}
 use Rattle.model.specs.Closure.{by, Within}
-use Rattle.model.specs.Rules.{Rule, cond, canSays, actsAs, bodyOf}
+use Rattle.model.specs.Hierarchy.{Covers, phrase, nested}
+use Rattle.model.specs.Rules.{Rule, cond, canSays, actsAs, covers, bodyOf}
 use Rattle.model.specs.Reach.{Joins, asks, names, Reach, namedBy, joining}
 use Rattle.model.specs.Reached.{issuedIn, reach, counting}
 use Rattle.model.specs.Theorems.{who}
@@ -51,6 +52,16 @@ Vouches (canSay s d f) = Unit {0}
 abbrev what : Said → Fact ℕ
 what (said a d f) = f
 
+-- what is covered is about the same subject, and brings it in as before
+covers-subject : {H : List Link} {f g : Fact ℕ} → Covers H f g → subject f ≡ subject g
+covers-subject (phrase r) = refl
+covers-subject (nested c) = refl
+
+covers-vouches : {H : List Link} {f g : Fact ℕ} → Covers H f g → Vouches g → Vouches f
+covers-vouches (phrase {v = zero} r) v = tt
+covers-vouches (phrase {v = suc n} r) v = v
+covers-vouches (nested c) v = tt
+
 module _ (W : World) (asked : List ℕ) (𝒜 : List Assertion) (placed : (a : Assertion) → List·Memᴰ a 𝒜 → Placed (subject (a .head))) where
   abbrev In : ℕ → Type 0
   In p = Reach W 𝒜 asked p
@@ -84,6 +95,7 @@ module _ (W : World) (asked : List ℕ) (𝒜 : List Assertion) (placed : (a : A
   vouch-rule (canSays {a} {b} {k} {f}) ih r v =
       ih (said b k f) (List·Memᴰ·tail (List·Memᴰ·head refl)) (ih (said a unlimited (canSay b k f)) (List·Memᴰ·head refl) r tt) v
   vouch-rule (actsAs {a} {d} {b} {c} f) ih r v = subst In (sym (subject-about b f)) (ih (said a d (flat b 0 (c ∷ []))) (List·Memᴰ·head refl) r tt)
+  vouch-rule (covers {a} {d} {f} {g} c) ih r v = subst In (covers-subject c) (ih (said a d f) (List·Memᴰ·head refl) r (covers-vouches c v))
 
   vouch : (n : ℕ) (x : Said) → Within (Rule W 𝒜) n x → In (who x) → Vouches (what x) → In (subject (what x))
   vouch zero x w r v = absurd w
@@ -115,6 +127,7 @@ module _ (W : World) (asked : List ℕ) (𝒜 : List Assertion) (placed : (a : A
         (λ (n : List·Memᴰ y (said a d (about c f) ∷ [])). subst (λ (z : Said). In (who z)) (sym (List·Memᴰ·eq-of-singleton n)) r)
         (List·Memᴰ·cases-cons e),
   )
+  inside-rule (covers {a} {d} {f} {g} c) ih r = (covers c, λ y e. subst (λ (z : Said). In (who z)) (sym (List·Memᴰ·eq-of-singleton e)) r)
 
   inside-in : (n : ℕ) (x : Said) → In (who x) → Within (Rule W 𝒜) n x → Within (Rule W counted) n x
   inside-in zero x r w = w

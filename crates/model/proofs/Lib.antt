@@ -6,6 +6,7 @@ pub mod Order
 pub mod ClosureFacts
 pub mod RoundFacts
 pub mod BindingFacts
+pub mod HierarchyFacts
 pub mod StepFacts
 pub mod ReachFacts
 pub mod JudgingFacts
@@ -30,6 +31,7 @@ pub mod EntryReader
 pub mod SafetyRules
 pub mod ProperRequests
 pub mod BoundVariables
+pub mod LinkFacts
 pub mod Grounded
 pub mod FreeVariables
 pub mod Theorems

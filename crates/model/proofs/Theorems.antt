@@ -8,7 +8,7 @@ use native.Mathlib.Decide.{decLt}
 use lib.ListN.{length, getD, List·getD-eq-default}
 use Rattle.model.specs.Limits.{unbound, answerBytes}
 use Rattle.model.specs.Lists.{all, each}
-use Rattle.model.specs.Syntax.{today, Assertion, Withdrawal, Constant, Policy, Request, Node, World, worldOf, Read, worldIn}
+use Rattle.model.specs.Syntax.{today, Assertion, Withdrawal, Link, Constant, Verb, Policy, Request, Node, World, worldOf, withHierarchy, Read, worldIn}
 use Rattle.model.specs.Kinds.{noConstant, demandsIn, inPlace, comparable}
 use Rattle.model.specs.Closure.{Derives, First}
 use Rattle.model.specs.Rules.{Rule}
@@ -16,7 +16,7 @@ use Rattle.model.specs.Requests.{issuers, kindsIn, freeKinds, bindingsIn
 use Rattle.model.specs.Withdrawals.{stays, left, leftIn}
 use Rattle.model.specs.Bytes.{u16At, u32At, choose, got, andThen}
 use Rattle.model.specs.Reader.{byte, u16, items, list}
-use Rattle.model.specs.Layout.{slice, readWithdrawals}
+use Rattle.model.specs.Layout.{slice, readWithdrawals, readHierarchy}
 use Rattle.model.specs.Records.{Entry, keyOf, answersBytes, Arity}
 use Rattle.model.specs.Meant.{Outcome, tooManyFacts, tooManyAnswers, decided, MoreThan, AtMost, Enumerates, Derivable, FirstIn, Satisfies}
 use Rattle.model.specs.Meant.{itself, Meant, fullTable, fullAnswers, allListed}
@@ -25,13 +25,14 @@ use Rattle.model.specs.Reached.{issuedIn, reach, counting}
 use Rattle.model.specs.Deciding.{outcome, decide, read, countedIn}
 use Rattle.model.specs.Decision.{Slices, Lent, allow, deny, refusal, Report, capacity, room, atFront, word, reported, decision}
 use Rattle.model.specs.Theorems as Q
-use Rattle.model.specs.Theorems.{Inputs, ReadAs, AskedAs, Adds, Longer, withPolicy, withWithdrawals, withoutEntries, IsDecision}
-use Rattle.model.specs.Theorems.{ListedIn, answerIn, MeantBy}
+use Rattle.model.specs.Theorems.{Inputs, InputsBySlice, ReadAs, AskedAs, Adds, Longer, withPolicy, withWithdrawals, withoutEntries}
+use Rattle.model.specs.Theorems.{IsDecision, ListedIn, answerIn, MeantBy}
 use Rattle.model.proofs.ListFacts.{and-of, keep-of, keep-in, member-of, member-in}
-use Rattle.model.proofs.ClosureFacts.{derives↔within, derives-more}
+use Rattle.model.proofs.ClosureFacts.{derives↔within, derives-more, within-more}
 use Rattle.model.proofs.RoundFacts as S
 use Rattle.model.proofs.BindingFacts.{bindings-of}
-use Rattle.model.proofs.StepFacts.{eqSaid-of, eqSaid-refl, step-of, step-in}
+use Rattle.model.proofs.HierarchyFacts.{descendants-of, descendants-in, covered-of, covered-in}
+use Rattle.model.proofs.StepFacts.{eqSaid-of, eqSaid-refl, three-only, step-of, step-in}
 use Rattle.model.proofs.ReachFacts.{reach-of, reach-in, reach↔}
 use Rattle.model.proofs.RecordFacts.{fits, same-key}
 use Rattle.model.proofs.OutcomeFacts.{clash, meant-unique, meant, same-entry}
@@ -175,9 +176,10 @@ computedReach W 𝒜 asked = (
 
 -- ---- added assertions
 
--- what is read with another policy in the first one's place: where constants and verbs are the same, so are the world, the request and the withdrawals
+-- what is read with another policy in the first one's place: where constants and verbs are the same, so are the world, the request, the withdrawals and the
+-- hierarchy
 abbrev another : Read → Policy → Read
-another R L = read L (R .request) (R .withdrawals)
+another R L = read L (R .request) (R .withdrawals) (R .hierarchy)
 
 module _ (R : Read) (L : Policy) (cs : L .constants ≡ R .policy .constants) (vs : L .verbs ≡ R .policy .verbs) where
   with-policy : (l : Lent) (other : List ℕ) → Inputs (l .slices) R → ReadAs other L → Inputs (withPolicy other l .slices) (another R L)
@@ -187,10 +189,11 @@ module _ (R : Read) (L : Policy) (cs : L .constants ≡ R .policy .constants) (v
         readAs = a;
         askedAs = (k .askedAs .0, rw (cs, vs) (k .askedAs .1));
         withdrawnAs = (k .withdrawnAs .0, rw cs (k .withdrawnAs .1));
+        rankedAs = (k .rankedAs .0, rw (cs, vs) (k .rankedAs .1));
       })
 
   same-world : worldIn (another R L) ≡ worldIn R
-  same-world = λ i. record { constants = cs i; verbs = vs i; today = R .request .today }
+  same-world = λ i. record { constants = cs i; verbs = vs i; today = R .request .today; hierarchy = R .hierarchy }
 
 -- reports tell nothing of the slices
 same-buffers : (o : Outcome) (l : Lent) (s : Slices)
@@ -329,7 +332,7 @@ freeAnswers s R h θ a v t =
 -- ---- ground
 
 pub ground : Q.Ground
-ground s R h x d = grounded (s .policy) R (slice-by-slice s R h .readAs) x d
+ground s R h x d = let i = slice-by-slice s R h in grounded (s .policy) (s .hierarchy) R (i .readAs) (i .rankedAs) x d
 
 -- ---- safety
 
@@ -344,9 +347,10 @@ unfolding readWithdrawals slice list items u16 byte u32At u16At choose andThen
 no-entries cs = refl
 
 pub nothingWithdrawn : Q.NothingWithdrawn
-nothingWithdrawn s P q e a k = (
-  of-slices s (read P q []) (record { readAs = a; askedAs = k; withdrawnAs = (7, ap (readWithdrawals (P .constants)) e ∙ no-entries (P .constants)) }),
-  left-all (worldOf P q) (P .assertions),
+nothingWithdrawn s P q H e a k r = (
+  of-slices s (read P q [] H)
+      (record { readAs = a; askedAs = k; withdrawnAs = (7, ap (readWithdrawals (P .constants)) e ∙ no-entries (P .constants)); rankedAs = r }),
+  left-all (withHierarchy H (worldOf P q)) (P .assertions),
 )
 
 pub withdrawnIsAbsent : Q.WithdrawnIsAbsent
@@ -358,7 +362,7 @@ withdrawnIsAbsent l other R L h a e =
     l′ = withWithdrawals withoutEntries (withPolicy other l)
 
     R′ : Read
-    R′ = read L (R .request) []
+    R′ = read L (R .request) [] (R .hierarchy)
 
     c : ℕ
     c = capacity (l .factBuffer)
@@ -372,11 +376,11 @@ withdrawnIsAbsent l other R L h a e =
     vs : L .verbs ≡ R .policy .verbs
     vs = ap (λ (P : Policy). P .verbs) e
 
-    asked : AskedAs L (l .slices .request) (R .request)
-    asked = slice-by-slice (withPolicy other l .slices) (another R L) (with-policy R L cs vs l other h a) .askedAs
+    others : InputsBySlice (withPolicy other l .slices) (another R L)
+    others = slice-by-slice (withPolicy other l .slices) (another R L) (with-policy R L cs vs l other h a)
 
     inputs : Inputs (l′ .slices) R′
-    inputs = nothingWithdrawn (l′ .slices) L (R .request) refl a asked .0
+    inputs = nothingWithdrawn (l′ .slices) L (R .request) (R .hierarchy) refl a (others .askedAs) (others .rankedAs) .0
 
     world : worldIn R′ ≡ worldIn R
     world = same-world R L cs vs
@@ -423,3 +427,27 @@ serialsAside l other R L h a none e =
         ∙ (all-left (L .assertions)
         ∙ (serials-aside W (L .assertions) (R .policy .assertions) (issuers n W) n c r (ap (λ (P : Policy). P .assertions) e)
         ∙ (sym (all-left (R .policy .assertions)) ∙ (λ i. by W (sym none i) (R .policy .assertions)))))
+
+-- ---- the hierarchy
+
+-- the slice without entries is accepted by whatever constants and verbs
+no-links : (cs : List Constant) (vs : List Verb) → readHierarchy cs vs withoutEntries ≡ got [] 7
+unfolding readHierarchy slice list items u16 byte u32At u16At choose andThen
+no-links cs vs = refl
+
+pub noHierarchy : Q.NoHierarchy
+noHierarchy s P q ws e a k w = (
+  of-slices s (read P q ws []) (record {
+    readAs = a;
+    askedAs = k;
+    withdrawnAs = w;
+    rankedAs = (7, ap (readHierarchy (P .constants) (P .verbs)) e ∙ no-links (P .constants) (P .verbs));
+  }),
+  λ n x. (within-more (three-only (worldOf P q) refl) n x, within-more (λ ps y r. r .0) n x),
+)
+
+pub computedDescendants : Q.ComputedDescendants
+computedDescendants H = (
+  λ verb position c d. (descendants-of H verb position c d, descendants-in H verb position c d),
+  λ f g. (covered-of H f g, covered-in H),
+)

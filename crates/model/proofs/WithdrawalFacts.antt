@@ -13,7 +13,7 @@ use Rattle.model.specs.Requests.{issuers}
 use Rattle.model.specs.Withdrawals.{isConstant, noBinding, removes, stays, left, leftIn}
 use Rattle.model.specs.Meant.{Outcome}
 use Rattle.model.specs.Rounds.{table}
-use Rattle.model.specs.Steps.{step, eqSaid, byCond, byCanSay, byActAs}
+use Rattle.model.specs.Steps.{step, eqSaid, byCond, byCanSay, byActAs, byHierarchy}
 use Rattle.model.specs.Reached.{issuedIn, brings, join, named, reach, counting}
 use Rattle.model.specs.Records.{Entry, keyOf}
 use Rattle.model.specs.Judging.{answersOf}
@@ -138,7 +138,8 @@ module _ (W : World) where
       ap (λ (set : List ℕ). keep (issuedIn set) (bare 𝒜)) (reach-bare 𝒜 asked) ∙ keep-bare (reach W 𝒜 asked) 𝒜
 
   step-bare : (𝒜 : List Assertion) (xs : List Said) → step W (bare 𝒜) xs ≡ step W 𝒜 xs
-  step-bare 𝒜 xs = ap (λ (l : List Said). l ++ (each xs (byCanSay W xs) ++ each xs (byActAs W xs))) (each-bare (byCond W xs) (λ a. refl) 𝒜)
+  step-bare 𝒜 xs =
+      ap (λ (l : List Said). l ++ (each xs (byCanSay W xs) ++ (each xs (byActAs W xs) ++ each xs (byHierarchy W)))) (each-bare (byCond W xs) (λ a. refl) 𝒜)
 
   outcome-bare : (𝒜 : List Assertion) (n : Node) (c r : ℕ) → outcome W (bare 𝒜) n c r ≡ outcome W 𝒜 n c r
   outcome-bare 𝒜 n c r =

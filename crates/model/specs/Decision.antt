@@ -3,18 +3,19 @@ use Prim.Native.Nat.{ℕ, _-_, _/_, min}
 use mathlib.Core.List.{List, [], _∷_, _++_}
 use lib.ListN.{length, replicate}
 use Rattle.model.specs.Limits.{recordBytes, maxRecords, answerBytes}
-use Rattle.model.specs.Syntax.{Policy, Request, Withdrawal, Read}
+use Rattle.model.specs.Syntax.{Policy, Request, Withdrawal, Link, Read}
 use Rattle.model.specs.Records.{Entry, recordsOf, lastRound, answersBytes}
 use Rattle.model.specs.Meant.{Outcome, tooManyFacts, tooManyAnswers, decided}
 use Rattle.model.specs.Deciding.{decide}
 use Rattle.model.specs.Bytes.{Reading, got, refused}
-use Rattle.model.specs.Layout.{Accepted, policyOf, readPolicy, readRequest, readWithdrawals}
+use Rattle.model.specs.Layout.{Accepted, policyOf, readPolicy, readRequest, readWithdrawals, readHierarchy}
 
 -- "Bytes of every sort as policy and request", and each slice that a later request adds: the slices that are read
 pub record Slices : Type 0 where
   pub policy : List ℕ
   pub request : List ℕ
   pub withdrawals : List ℕ
+  pub hierarchy : List ℕ
 
 -- "with buffers of every length": what a call of the decision is lent
 pub record Lent : Type 0 where
@@ -23,12 +24,12 @@ pub record Lent : Type 0 where
   pub answerBuffer : List ℕ
 
 -- put together from the lists that a function is lent, for contracts of code
-abbrev pub slices : List ℕ → List ℕ → List ℕ → Slices
-slices policy request withdrawals = record { policy = policy; request = request; withdrawals = withdrawals }
+abbrev pub slices : List ℕ → List ℕ → List ℕ → List ℕ → Slices
+slices policy request withdrawals hierarchy = record { policy = policy; request = request; withdrawals = withdrawals; hierarchy = hierarchy }
 
-abbrev pub lent : List ℕ → List ℕ → List ℕ → List ℕ → List ℕ → Lent
-lent policy request withdrawals facts answers =
-    record { slices = slices policy request withdrawals; factBuffer = facts; answerBuffer = answers }
+abbrev pub lent : List ℕ → List ℕ → List ℕ → List ℕ → List ℕ → List ℕ → Lent
+lent policy request withdrawals hierarchy facts answers =
+    record { slices = slices policy request withdrawals hierarchy; factBuffer = facts; answerBuffer = answers }
 
 -- a request is read by the policy's constants and verbs
 abbrev pub requestUnder : Policy → Slices → Reading Request
@@ -37,6 +38,10 @@ requestUnder P s = readRequest (P .constants) (P .verbs) (s .request)
 -- so are the withdrawals, by its constants
 abbrev pub withdrawalsUnder : Policy → Slices → Reading (List Withdrawal)
 withdrawalsUnder P s = readWithdrawals (P .constants) (s .withdrawals)
+
+-- and the hierarchy, by its constants and verbs
+abbrev pub hierarchyUnder : Policy → Slices → Reading (List Link)
+hierarchyUnder P s = readHierarchy (P .constants) (P .verbs) (s .hierarchy)
 
 -- what the slices say, or "a refusal's number, side and place"
 pub data Taken : Type 0 where
@@ -48,13 +53,14 @@ unfoldable pub sided : {A : Type 0} → ℕ → Reading A → (A → Taken) → 
 sided side (got a e) next = next a
 sided side (refused n p) next = refusedOn n side p
 
--- "side 1 policy or 2 request"; "Policy before request"; the withdrawals "with side 3, after the request"
+-- "side 1 policy or 2 request"; "Policy before request"; the withdrawals "with side 3, after the request"; the hierarchy "with side 4, after side 3"
 unfoldable pub readSlices : Slices → Taken
 readSlices s =
     sided 1 (readPolicy (s .policy)) (λ A. let P = policyOf A in
     sided 2 (requestUnder P s) (λ q.
     sided 3 (withdrawalsUnder P s) (λ ws.
-    accepted (record { policy = P; request = q; withdrawals = ws }))))
+    sided 4 (hierarchyUnder P s) (λ H.
+    accepted (record { policy = P; request = q; withdrawals = ws; hierarchy = H })))))
 
 -- "the decision word or a refusal's number, side and place"
 pub data Verdict : Type 0 where

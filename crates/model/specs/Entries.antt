@@ -5,14 +5,14 @@ use mathlib.Core.List.{List}
 use mathlib.Core.Bool.{Bool, false}
 use lib.ListN.{length}
 use lib.Dec.{eqb, ltb}
-use Rattle.model.specs.Limits.{maxWithdrawals, maxConstraints, version, headerBytes}
-use Rattle.model.specs.Syntax.{Withdrawal, Constant, varsWithdrawal}
-use Rattle.model.specs.Kinds.{withdrawalDemands, fitting}
-use Rattle.model.specs.Bytes.{byteAt, u32At, choose, both, Reading, got, refused, andThen}
+use Rattle.model.specs.Limits.{maxWithdrawals, maxLinks, linkBytes, maxConstraints, version, headerBytes}
+use Rattle.model.specs.Syntax.{Withdrawal, Link, Constant, Verb, varsWithdrawal}
+use Rattle.model.specs.Kinds.{withdrawalDemands, fitting, fitsLink}
+use Rattle.model.specs.Bytes.{byteAt, u16At, u32At, choose, both, Reading, got, refused, andThen}
 use Rattle.model.specs.Readings.{exprAt, constraintsAt}
 use Rattle.model.specs.Forms.{operatorsForm}
 use Rattle.model.specs.Policies.{contents, headed, listAt, ended}
-unfoldable pub use Rattle.model.specs.Layout.{readWithdrawals}
+unfoldable pub use Rattle.model.specs.Layout.{readWithdrawals, readHierarchy}
 
 -- ---- withdrawals: "entries of issuer, 4-byte serial, count byte and constraints"
 
@@ -43,3 +43,24 @@ withdrawalItem cs s earlier at =
 unfoldable pub computedWithdrawals : List Constant → List ℕ → Reading (List Withdrawal)
 computedWithdrawals cs s =
     headed version s (andThen (listAt s 0 maxWithdrawals (withdrawalItem cs s) headerBytes) (λ ws e. ended s (contents ws) e))
+
+-- ---- the hierarchy: "verb, parameter position from 1, parent and child"
+
+unfoldable pub linkAt : List ℕ → ℕ → Link
+linkAt s at = record { verb = byteAt s at; position = byteAt s (at + 1); parent = u16At s (at + 2); child = u16At s (at + 4) }
+
+-- "after 5 in its entry" 11
+unfoldable pub linkJudged : List Constant → List Verb → Link → ℕ → ℕ → Reading Link
+linkJudged cs vs l at e = choose (fitsLink cs vs l) (choose (eqb (l .parent) (l .child)) (refused 11 at) (got l e)) (refused 5 at)
+
+-- "A verb number past the verbs ends the reading of its item: it gives 5"
+unfoldable pub linkItem : List Constant → List Verb → List ℕ → List Link → ℕ → Reading Link
+linkItem cs vs s earlier at =
+    choose (ltb (length s) (at + 1)) (refused 3 at)
+    (choose (ltb (length vs) (byteAt s at)) (refused 5 at)
+    (choose (ltb (length s) (at + linkBytes)) (refused 3 at)
+    (linkJudged cs vs (linkAt s at) at (at + linkBytes))))
+
+unfoldable pub computedHierarchy : List Constant → List Verb → List ℕ → Reading (List Link)
+computedHierarchy cs vs s =
+    headed version s (andThen (listAt s 0 maxLinks (linkItem cs vs s) headerBytes) (λ ls e. ended s (contents ls) e))

@@ -1,12 +1,12 @@
 -- The kinds of expressions. "A variable has one kind throughout its assertion or request."
 use mathlib.Core.List.{List, [], _∷_, _++_, map}
-use mathlib.Core.Bool.{Bool, true, false, cond, _&&_, _||_}
-use Prim.Native.Nat.{ℕ, zero, suc}
-use lib.ListN.{getD}
-use lib.Dec.{eqb, ltb}
-use Rattle.model.specs.Limits.{principal, thing, day, quantity}
+use mathlib.Core.Bool.{Bool, true, false, cond, _&&_, _||_, not}
+use Prim.Native.Nat.{ℕ, zero, suc, _-_}
+use lib.ListN.{length, getD}
+use lib.Dec.{eqb, ltb, leb}
+use Rattle.model.specs.Limits.{principal, thing, day, quantity, canActAs}
 use Rattle.model.specs.Lists.{any, all, each, member, product}
-use Rattle.model.specs.Syntax.{Expr, con, var, today, Fact, flat, canSay, Constraint, Assertion, Withdrawal, Constant, Verb, varsOf, varsTest}
+use Rattle.model.specs.Syntax.{Expr, con, var, today, Fact, flat, canSay, Constraint, Assertion, Withdrawal, Link, Constant, Verb, varsOf, varsTest}
 use Rattle.model.specs.Syntax.{Node, Nodes, says, test, allOf, anyOf, non, exists, end, more}
 
 -- where a number has no constant
@@ -105,6 +105,17 @@ comparable cs κ c = operands (c .op) (kindUnder cs κ (c .left)) (kindUnder cs 
 
 abbrev pub meets : List Constant → Demands → List ℕ → Bool
 meets cs D κ = all (inPlace cs κ) (D .places) && all (comparable cs κ) (D .tests)
+
+-- ---- request 05: "an entry for verb 0, for a position 0 or past the verb's arity or for a parent or child other than a constant of that parameter's kind gets
+-- 5"
+
+abbrev pub kindOfLink : List Verb → Link → ℕ
+kindOfLink vs l = getD (paramKinds vs (l .verb)) (l .position - 1) 0
+
+abbrev pub fitsLink : List Constant → List Verb → Link → Bool
+fitsLink cs vs l =
+    not (eqb (l .verb) canActAs) && leb 1 (l .position) && leb (l .position) (length (paramKinds vs (l .verb)))
+    && eqb (kindAt cs (l .parent)) (kindOfLink vs l) && eqb (kindAt cs (l .child)) (kindOfLink vs l)
 
 -- ==== Computed from here on: the kind of a variable (`Theorems.OneKind`), and the search for a choice that fits (`Theorems.KindsFit`).
 

@@ -1,5 +1,5 @@
 -- The bytes of the slices, in document 01's order: what they say, or the refusal with its place ("Policy bytes", "Request bytes", "Refusals from the input";
--- request 02).
+-- requests 02 and 05).
 use Prim.Native.Nat.{ℕ, zero, suc, _-_}
 use mathlib.Core.List.{List, []}
 use mathlib.Core.Bool.{_&&_, _||_, not}
@@ -7,9 +7,10 @@ use lib.ListN.{length}
 use lib.Dec.{eqb, ltb, leb}
 use Rattle.model.specs.Limits.{principal, thing, day, quantity}
 use Rattle.model.specs.Lists.{any, all}
-use Rattle.model.specs.Syntax.{Expr, con, var, today, Fact, flat, canSay, Constraint, Assertion, Withdrawal, Constant, Verb, Policy, varsWithdrawal}
+use Rattle.model.specs.Syntax.{Expr, con, var, today, Fact, flat, canSay, Constraint, Assertion, Withdrawal, Link, Constant, Verb, Policy}
+use Rattle.model.specs.Syntax.{varsWithdrawal}
 use Rattle.model.specs.Syntax.{Node, Nodes, says, test, allOf, anyOf, non, exists, end, more, Request}
-use Rattle.model.specs.Kinds.{paramKinds, Demands, noDemands, joined, demandsIn, withdrawalDemands, fitting, fitsAssertion}
+use Rattle.model.specs.Kinds.{paramKinds, Demands, noDemands, joined, demandsIn, withdrawalDemands, fitting, fitsLink, fitsAssertion}
 use Rattle.model.specs.Safety.{safeAssertion, safeRequest}
 use Rattle.model.specs.Bytes.{byteAt, u32At, choose, Reading, refused}
 use Rattle.model.specs.Values.{alike, sameValue}
@@ -124,7 +125,7 @@ module _ (s : List ℕ) where
     require 6 (safeAssertion a)
     pure a
 
-  -- ---- entries: an item without a length is its own bytes. "within an item 3, .. 5", and then 10
+  -- ---- entries: an item without a length is its own bytes. "within an item 3, .. 5", and then 10 or 11
 
   -- request 02: "entries of issuer, 4-byte serial, count byte and constraints"; "a constraint count is 0 to 4"
   unfoldable pub withdrawal : Reader Withdrawal
@@ -142,6 +143,25 @@ module _ (s : List ℕ) where
     require 5 (fitting cs (withdrawalDemands w))
     require 10 (eqb (length (varsWithdrawal w)) 0)
     pure w
+
+  -- request 05: "verb, parameter position from 1, parent and child". "a constant is an expression": a number that is no constant's has no kind, and gives 5.
+  -- "A verb number past the verbs ends the reading of its item: it gives 5"
+  unfoldable pub linked : List Verb → Reader Link
+  linked vs = do
+    verb ← byte s
+    require 5 (leb verb (length vs))
+    position ← byte s
+    parent ← u16 s
+    child ← u16 s
+    pure (record { verb = verb; position = position; parent = parent; child = child })
+
+  -- "Refusals 1, 2, 3 and 5 apply with side 4"; "11, parent equal to child, after 5 in its entry"
+  unfoldable pub linkItem : List Constant → List Verb → List Link → Reader Link
+  linkItem cs vs earlier = do
+    l ← linked vs
+    require 5 (fitsLink cs vs l)
+    require 11 (not (eqb (l .parent) (l .child)))
+    pure l
 
   -- ---- nodes: "each node are items, a node's item being its own bytes without the nodes inside it". D is what the items before it ask of the kinds.
 
@@ -204,3 +224,10 @@ readWithdrawals cs s = slice s 1 do
   ws ← list s 0 256 (withdrawalItem s cs)
   item ending
   pure (contents ws)
+
+-- request 05: "(version, length, 2-byte count of 0 to 1,024)"
+unfoldable pub readHierarchy : List Constant → List Verb → List ℕ → Reading (List Link)
+readHierarchy cs vs s = slice s 1 do
+  ls ← list s 0 1024 (linkItem s cs vs)
+  item ending
+  pure (contents ls)

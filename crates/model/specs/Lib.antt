@@ -10,6 +10,7 @@ pub mod Values
 pub mod Binding
 -- What is true: rules, reach, requests, safety, and the outcome that is meant.
 pub mod Closure
+pub mod Hierarchy
 pub mod Rules
 pub mod Reach
 pub mod Requests
@@ -20,6 +21,7 @@ pub mod Records
 pub mod Meant
 -- What is computed, and proved to be that.
 pub mod Rounds
+pub mod Descendants
 pub mod Steps
 pub mod Reached
 pub mod Judging

@@ -55,6 +55,13 @@ maxAssertions = 256
 abbrev pub maxWithdrawals : ℕ
 maxWithdrawals = 256
 
+-- ---- request 05: "2-byte count of 0 to 1,024"; an entry has 6 bytes
+abbrev pub maxLinks : ℕ
+maxLinks = 1024
+
+abbrev pub linkBytes : ℕ
+linkBytes = 6
+
 -- ---- "label of 1 to 32 bytes in 0x21 to 0x7E"
 abbrev pub maxLabel : ℕ
 maxLabel = 32

@@ -52,6 +52,13 @@ pub record Withdrawal : Type 0 where
   pub serial : ℕ
   pub tests : List Constraint
 
+-- request 05: a slice that "lists verb, parameter position from 1, parent and child"
+pub record Link : Type 0 where
+  pub verb : ℕ
+  pub position : ℕ
+  pub parent : ℕ
+  pub child : ℕ
+
 -- "Nodes: 1 says (issuer, fact); 2 constraint; 3 all-of and 4 any-of; 5 not; 6 exists (variable, node)."
 mutual
   pub data Node : Type 0 where
@@ -74,23 +81,29 @@ pub record Request : Type 0 where
 pub data Said : Type 0 where
   said : ℕ → ℕ → Fact ℕ → Said
 
--- what gives an assertion its meaning: the policy without its assertions, and today
+-- what gives an assertion its meaning: the policy without its assertions, today, and the hierarchy
 pub record World : Type 0 where
   pub constants : List Constant
   pub verbs : List Verb
   pub today : ℕ
+  pub hierarchy : List Link
 
+-- without a hierarchy
 abbrev pub worldOf : Policy → Request → World
-worldOf P q = record { constants = P .constants; verbs = P .verbs; today = q .today }
+worldOf P q = record { constants = P .constants; verbs = P .verbs; today = q .today; hierarchy = [] }
+
+abbrev pub withHierarchy : List Link → World → World
+withHierarchy H W = record { constants = W .constants; verbs = W .verbs; today = W .today; hierarchy = H }
 
 -- what was read of the lent slices (`Decision.Slices`)
 pub record Read : Type 0 where
   pub policy : Policy
   pub request : Request
   pub withdrawals : List Withdrawal
+  pub hierarchy : List Link
 
 abbrev pub worldIn : Read → World
-worldIn R = worldOf (R .policy) (R .request)
+worldIn R = withHierarchy (R .hierarchy) (worldOf (R .policy) (R .request))
 
 -- ---- facts
 

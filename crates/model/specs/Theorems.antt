@@ -7,24 +7,26 @@ use lib.ListN.{length, take, drop, getD}
 use lib.Dec.{T}
 use Rattle.model.specs.Limits.{principal, unbound, answerBytes}
 use Rattle.model.specs.Lists.{member}
-use Rattle.model.specs.Syntax.{Fact, flat, canSay, Assertion, Withdrawal, Constant, Verb, Policy, Request, World, worldOf, Read, worldIn, Said, said}
-use Rattle.model.specs.Syntax.{Node, Nodes, says, test, allOf, anyOf, non, exists, end, more}
+use Rattle.model.specs.Syntax.{Fact, flat, canSay, Assertion, Withdrawal, Link, Constant, Verb, Policy, Request, World, worldOf, Read, worldIn}
+use Rattle.model.specs.Syntax.{Said, said, Node, Nodes, says, test, allOf, anyOf, non, exists, end, more}
 use Rattle.model.specs.Kinds.{Demands, noDemands, demandsOf, demandsIn, paramKinds, kindAt, meets, fitting, kinds, kindOf}
 use Rattle.model.specs.Values.{bindingsOf}
 use Rattle.model.specs.Binding.{Fits, Binds, inPlaces}
 use Rattle.model.specs.Closure.{Derives, Within, First}
-use Rattle.model.specs.Rules.{Rule, depths}
+use Rattle.model.specs.Hierarchy.{Below, Covers}
+use Rattle.model.specs.Rules.{Rule, ThreeRules, depths}
 use Rattle.model.specs.Reach.{Reach}
 use Rattle.model.specs.Requests.{issuers, free, kindsIn, bindingsIn}
 use Rattle.model.specs.Withdrawals.{leftIn}
 use Rattle.model.specs.Records.{Entry, keyOf, recordOf}
 use Rattle.model.specs.Meant.{Outcome, decided, MoreThan, AtMost, Enumerates, Derivable, FirstIn, Satisfies, itself, Meant}
 use Rattle.model.specs.Rounds.{round, table}
+use Rattle.model.specs.Descendants.{descendants, covered}
 use Rattle.model.specs.Steps.{eqSaid, step}
 use Rattle.model.specs.Reached.{reach, counting}
 use Rattle.model.specs.Deciding.{read, countedIn}
 use Rattle.model.specs.Bytes.{got}
-use Rattle.model.specs.Layout.{Accepted, policyOf, node, readPolicy, readRequest, readWithdrawals}
+use Rattle.model.specs.Layout.{Accepted, policyOf, node, readPolicy, readRequest, readWithdrawals, readHierarchy}
 use Rattle.model.specs.Safety.{safeRequest}
 use Rattle.model.specs.Safe.{SafeRequest}
 use Rattle.model.specs.Decision.{Slices, Lent, lent, accepted, readSlices, Verdict, allow, deny, refusal, Report, capacity, room, reported, decision}
@@ -39,6 +41,9 @@ AskedAs P request q = (e : ℕ) × (readRequest (P .constants) (P .verbs) reques
 
 abbrev pub WithdrawnAs : Policy → List ℕ → List Withdrawal → Type 0
 WithdrawnAs P withdrawals ws = (e : ℕ) × (readWithdrawals (P .constants) withdrawals ≡ got ws e)
+
+abbrev pub RankedAs : Policy → List ℕ → List Link → Type 0
+RankedAs P hierarchy H = (e : ℕ) × (readHierarchy (P .constants) (P .verbs) hierarchy ≡ got H e)
 
 -- the slices are accepted, and R is what was read of them
 abbrev pub Inputs : Slices → Read → Type 0
@@ -76,7 +81,7 @@ pub record Longer (Q : Assertion → Type 0) (P L : Policy) : Type 0 where
 
 -- "two calls .. on one request, with buffers alike in length and in every byte at entry": another policy, and all else as lent
 abbrev pub withPolicy : List ℕ → Lent → Lent
-withPolicy policy l = lent policy (l .slices .request) (l .slices .withdrawals) (l .factBuffer) (l .answerBuffer)
+withPolicy policy l = lent policy (l .slices .request) (l .slices .withdrawals) (l .slices .hierarchy) (l .factBuffer) (l .answerBuffer)
 
 -- the reach goes by what is left
 abbrev pub InReach : Read → ℕ → Type 0
@@ -123,7 +128,7 @@ ListedIn r θ = (i : ℕ) × (i < r .answers) × (answerIn (r .answerBuffer) i �
 abbrev pub Anyone : Assertion → Type 0
 Anyone a = Unit {0}
 
--- ---- 3. withdrawals (request 02)
+-- ---- 3. withdrawals (request 02) and the hierarchy (request 05)
 
 -- "such slices without entries": version 1, a length of 2, a count of 0
 abbrev pub withoutEntries : List ℕ
@@ -131,7 +136,7 @@ withoutEntries = 1 ∷ 0 ∷ 0 ∷ 0 ∷ 2 ∷ 0 ∷ 0 ∷ []
 
 -- other withdrawals, and all else as lent
 abbrev pub withWithdrawals : List ℕ → Lent → Lent
-withWithdrawals withdrawals l = lent (l .slices .policy) (l .slices .request) withdrawals (l .factBuffer) (l .answerBuffer)
+withWithdrawals withdrawals l = lent (l .slices .policy) (l .slices .request) withdrawals (l .slices .hierarchy) (l .factBuffer) (l .answerBuffer)
 
 -- the policy with another list of assertions
 abbrev pub withAssertions : List Assertion → Policy → Policy
@@ -143,6 +148,16 @@ withoutSerial a = record { serial = 0; issuer = a .issuer; head = a .head; body 
 
 abbrev pub withoutSerials : Policy → Policy
 withoutSerials P = withAssertions (map withoutSerial (P .assertions)) P
+
+-- each round holds what it holds by the three published rules alone
+abbrev pub ByThree : Read → Type 0
+ByThree R = (n : ℕ) (x : Said) → Within (Rule (worldIn R) (countedIn R)) n x ↔ Within (ThreeRules (worldIn R) (countedIn R)) n x
+
+-- without entries the hierarchy is accepted, and the same is derived, in the same rounds, as by the three published rules alone
+abbrev pub NoHierarchy : Type 0
+NoHierarchy = (s : Slices) (P : Policy) (q : Request) (ws : List Withdrawal)
+    → s .hierarchy ≡ withoutEntries → ReadAs (s .policy) P → AskedAs P (s .request) q → WithdrawnAs P (s .withdrawals) ws
+    → Inputs s (read P q ws []) × ByThree (read P q ws [])
 
 -- ---- 4. kinds and bindings
 
@@ -208,6 +223,7 @@ pub record InputsBySlice (s : Slices) (R : Read) : Type 0 where
   pub readAs : ReadAs (s .policy) (R .policy)
   pub askedAs : AskedAs (R .policy) (s .request) (R .request)
   pub withdrawnAs : WithdrawnAs (R .policy) (s .withdrawals) (R .withdrawals)
+  pub rankedAs : RankedAs (R .policy) (s .hierarchy) (R .hierarchy)
 
 abbrev pub SliceBySlice : Type 0
 SliceBySlice = (s : Slices) (R : Read) → Inputs s R ↔ InputsBySlice s R
@@ -217,6 +233,12 @@ SliceBySlice = (s : Slices) (R : Read) → Inputs s R ↔ InputsBySlice s R
 -- what the rules derive is what some round holds
 abbrev pub RulesAreRounds : Type 0
 RulesAreRounds = (W : World) (𝒜 : List Assertion) (x : Said) → Derives (Rule W 𝒜) x ↔ ((n : ℕ) × Within (Rule W 𝒜) n x)
+
+-- the computed descendants are the least set, and the computed facts those that a fact covers
+abbrev pub ComputedDescendants : Type 0
+ComputedDescendants = (H : List Link)
+    → ((verb position c d : ℕ) → List·Memᴰ d (descendants H verb position c) ↔ Below H verb position c d)
+    × ((f g : Fact ℕ) → List·Memᴰ g (covered H f) ↔ Covers H f g)
 
 -- a computed round holds exactly what is derivable within it
 abbrev pub ComputedRounds : Type 0
@@ -296,8 +318,9 @@ WithdrawnIsAbsent = (l : Lent) (other : List ℕ) (R : Read) (L : Policy) → In
 
 -- without entries nothing is withdrawn
 abbrev pub NothingWithdrawn : Type 0
-NothingWithdrawn = (s : Slices) (P : Policy) (q : Request) → s .withdrawals ≡ withoutEntries → ReadAs (s .policy) P → AskedAs P (s .request) q
-    → Inputs s (read P q []) × (leftIn (read P q []) ≡ P .assertions)
+NothingWithdrawn = (s : Slices) (P : Policy) (q : Request) (H : List Link)
+    → s .withdrawals ≡ withoutEntries → ReadAs (s .policy) P → AskedAs P (s .request) q → RankedAs P (s .hierarchy) H
+    → Inputs s (read P q [] H) × (leftIn (read P q [] H) ≡ P .assertions)
 
 -- without withdrawals "serial (no effect)": policies alike but for serials give the same report
 abbrev pub SerialsAside : Type 0

@@ -23,3 +23,7 @@ unsafe = refl
 pub withdrawn : lineOf (report (refusal 10 3 7) 0 0 0 [] []) ≡ text "refused 10 withdrawals 7\n"
 unfolding decimalBy decimal sideWord refusalLine lineBy lineOf
 withdrawn = refl
+
+pub circular : lineOf (report (refusal 11 4 7) 0 0 0 [] []) ≡ text "refused 11 hierarchy 7\n"
+unfolding decimalBy decimal sideWord refusalLine lineBy lineOf
+circular = refl

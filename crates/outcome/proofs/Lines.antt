@@ -10,7 +10,8 @@ use Rattle.outcome.specs.Line.{text, decimal, decisionLine, sideWord, re
 use Rattle.outcome.specs.Reported.{reportOf}
 use Rattle.outcome.specs.Wrote.{Wrote}
 use Rattle.outcome.specs.declared.Outcome.{Outcome}
-use Rattle.outcome.specs.declared.Outcome.the-variants.{Allow, Deny, PolicyRefused, RequestRefused, WithdrawalsRefused, TooManyFacts, TooManyAnswers}
+use Rattle.outcome.specs.declared.Outcome.the-variants.{Allow, Deny, PolicyRefused, RequestRefused, WithdrawalsRefused, HierarchyRefused}
+use Rattle.outcome.specs.declared.Outcome.the-variants.{TooManyFacts, TooManyAnswers}
 use Rattle.outcome.proofs.Decimals.{twenty}
 use Rattle.outcome.proofs.Writing.{onto}
 
@@ -51,10 +52,16 @@ module _ {a b : List ℕ} {r : ℕ} (at side : ℕ) where
   unfolding sideWord
   side-withdrawals e w = rw (ne-eqb side 1 (λ f. absurd (omega arith)), ne-eqb side 2 (λ f. absurd (omega arith)), eq-eqb side 3 e) w
 
-  pub side-none : (side ≡ 1 → ⊥) → (side ≡ 2 → ⊥) → (side ≡ 3 → ⊥) → Wrote a b at r (at + 6) (take at a ++ text " none ")
+  pub side-hierarchy : side ≡ 4 → Wrote a b at r (at + 11) (take at a ++ text " hierarchy ") → Wrote a b at r (at + 13) (take at a ++ sideWord side)
+  unfolding sideWord
+  side-hierarchy e w =
+      rw (ne-eqb side 1 (λ f. absurd (omega arith)), ne-eqb side 2 (λ f. absurd (omega arith)), ne-eqb side 3 (λ f. absurd (omega arith)), eq-eqb side 4 e)
+      (shorter 11 (omega arith) w)
+
+  pub side-none : (side ≡ 1 → ⊥) → (side ≡ 2 → ⊥) → (side ≡ 3 → ⊥) → (side ≡ 4 → ⊥) → Wrote a b at r (at + 6) (take at a ++ text " none ")
       → Wrote a b at r (at + 13) (take at a ++ sideWord side)
   unfolding sideWord
-  side-none f g h w = rw (ne-eqb side 1 f, ne-eqb side 2 g, ne-eqb side 3 h) (shorter 6 (omega arith) w)
+  side-none f g h k w = rw (ne-eqb side 1 f, ne-eqb side 2 g, ne-eqb side 3 h, ne-eqb side 4 k) (shorter 6 (omega arith) w)
 
 -- number, side and place
 pub refused-is : {a b c d e : List ℕ} {p q r s : ℕ} (number side place : ℕ) → place < 18446744073709551616
@@ -109,6 +116,11 @@ pub withdrawals-is : {a b : List ℕ} {r : ℕ} (o : Outcome) (number place : �
 unfolding lineOf lineBy
 withdrawals-is o number place e l w = line-is o (refusalLine number 3 place) (rw e) l w
 
+pub hierarchy-is : {a b : List ℕ} {r : ℕ} (o : Outcome) (number place : ℕ) → o ≡ Outcome.HierarchyRefused number place → length a ≡ 96
+    → Wrote a b 0 r 96 (refusalLine number 4 place) → Line a b r o
+unfolding lineOf lineBy
+hierarchy-is o number place e l w = line-is o (refusalLine number 4 place) (rw e) l w
+
 pub facts-are : {a b : List ℕ} {r : ℕ} (o : Outcome) → o ≡ Outcome.TooManyFacts → length a ≡ 96 → Wrote a b 0 r 96 (refusalLine 8 0 0) → Line a b r o
 unfolding lineOf lineBy
 facts-are o e l w = line-is o (refusalLine 8 0 0) (rw e) l w
@@ -126,5 +138,6 @@ any-buffers (Deny f r) facts answers = refl
 any-buffers (PolicyRefused n p) facts answers = refl
 any-buffers (RequestRefused n p) facts answers = refl
 any-buffers (WithdrawalsRefused n p) facts answers = refl
+any-buffers (HierarchyRefused n p) facts answers = refl
 any-buffers TooManyFacts facts answers = refl
 any-buffers (TooManyAnswers f r) facts answers = refl

@@ -26,13 +26,14 @@ unfoldable pub decisionLine : List ℕ → ℕ → ℕ → ℕ → List ℕ
 decisionLine word facts rounds answers =
     word ++ text " facts " ++ decimal facts ++ text " rounds " ++ decimal rounds ++ text " answers " ++ decimal answers ++ text "\n"
 
--- "side (policy, request, none)"; of the slice that request 02 adds, its name
+-- "side (policy, request, none)"; of the slices that requests 02 and 05 add, their names
 unfoldable pub sideWord : ℕ → List ℕ
 sideWord side =
     cond (eqb side 1) (text " policy ")
     (cond (eqb side 2) (text " request ")
     (cond (eqb side 3) (text " withdrawals ")
-    (text " none ")))
+    (cond (eqb side 4) (text " hierarchy ")
+    (text " none "))))
 
 -- `refused 8 none 0`: "number, side, place"
 unfoldable pub refusalLine : ℕ → ℕ → ℕ → List ℕ

@@ -2,9 +2,10 @@
 pub mod numbers;
 
 ghost use mathlib.Core.Path.{_≡_};
-ghost use mathlib.Core.List.{[], _++_};
-ghost use Prim.Native.Nat.{_+_, _≤_, _<_};
+ghost use mathlib.Core.List.{List, [], _++_};
+ghost use Prim.Native.Nat.{ℕ, _+_, _≤_, _<_};
 ghost use lib.ListN.{length, take, drop};
+ghost use Rattle.model.specs.Decision.{report, refusal};
 ghost use Rattle.outcome.specs.Line.{decimal, decisionLine, sideWord, refusalLine, lineOf};
 ghost use Rattle.outcome.specs.Reported.{reportOf};
 ghost use Rattle.outcome.specs.Wrote.{Wrote};
@@ -21,10 +22,29 @@ pub enum Outcome {
     RequestRefused(u8, usize),
     // side withdrawals, 1, 2, 3, 5 or 10: the number and the place
     WithdrawalsRefused(u8, usize),
+    // side hierarchy, 1, 2, 3, 5 or 11: the number and the place
+    HierarchyRefused(u8, usize),
     // 8
     TooManyFacts,
     // 9: the counts of facts and rounds
     TooManyAnswers(usize, usize),
+}
+
+// A refusal from the input, on the side of its slice.
+pub fn refused_on(side: u8, number: u8, place: usize) -> Outcome
+    requires { ⌜ (1 ≤ side) × (side ≤ 4) ⌝ }
+    ensures { λ o. ⌜ ((facts answers : List ℕ) → reportOf o facts answers ≡ report (refusal number side place) 0 0 0 facts answers) ⌝ }
+{
+    if side == 1 {
+        return Outcome::PolicyRefused(number, place);
+    }
+    if side == 2 {
+        return Outcome::RequestRefused(number, place);
+    }
+    if side == 3 {
+        return Outcome::WithdrawalsRefused(number, place);
+    }
+    Outcome::HierarchyRefused(number, place)
 }
 
 // What the C interface returns: numbers alone.
@@ -32,9 +52,9 @@ pub enum Outcome {
 pub struct Report {
     // 0 refused, 1 allow, 2 deny
     pub decision: u32,
-    // 1 to 10, 0 with a decision
+    // 1 to 11, 0 with a decision
     pub refusal: u32,
-    // 1 policy, 2 request, 3 withdrawals, 0 none
+    // 1 policy, 2 request, 3 withdrawals, 4 hierarchy, 0 none
     pub side: u32,
     pub facts: u32,
     pub rounds: u32,
@@ -111,6 +131,9 @@ fn side_word(out: &mut [u8], at: usize, side: u8) -> usize
     if side == 3 {
         return word(out, at, b" withdrawals ");
     }
+    if side == 4 {
+        return word(out, at, b" hierarchy ");
+    }
     word(out, at, b" none ")
 }
 
@@ -142,6 +165,7 @@ pub fn line(o: Outcome, out: &mut [u8; 96]) -> usize
         Outcome::PolicyRefused(number, place) => refusal(out, number as usize, 1, place),
         Outcome::RequestRefused(number, place) => refusal(out, number as usize, 2, place),
         Outcome::WithdrawalsRefused(number, place) => refusal(out, number as usize, 3, place),
+        Outcome::HierarchyRefused(number, place) => refusal(out, number as usize, 4, place),
         Outcome::TooManyFacts => refusal(out, 8, 0, 0),
         Outcome::TooManyAnswers(_, _) => refusal(out, 9, 0, 0),
     }

@@ -50,6 +50,7 @@ pub fn in_numbers(o: Outcome) -> Report
         Outcome::PolicyRefused(number, place) => refused(number, 1, place, 0, 0),
         Outcome::RequestRefused(number, place) => refused(number, 2, place, 0, 0),
         Outcome::WithdrawalsRefused(number, place) => refused(number, 3, place, 0, 0),
+        Outcome::HierarchyRefused(number, place) => refused(number, 4, place, 0, 0),
         Outcome::TooManyFacts => refused(8, 0, 0, 0, 0),
         Outcome::TooManyAnswers(facts, rounds) => refused(9, 0, 0, facts, rounds),
     }

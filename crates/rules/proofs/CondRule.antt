@@ -101,7 +101,7 @@ module _ {𝒜 : List Assertion} {F : Frame} {a : Assertion} (S : Framed 𝒜 F 
     ground : (q : List ℕ) → In q t → Ground (factOf q)
     ground q m =
         let s = H .sound q m in
-        let fine = good W 𝒜 (S .heads) (s .1) (derived (Rule W 𝒜) (s .0) (s .1) (s .3)) in
+        let fine = good W 𝒜 (S .sources) (s .1) (derived (Rule W 𝒜) (s .0) (s .1) (s .3)) in
         subst (λ (r : List ℕ). Ground (factOf r)) (sym (s .2)) (below-ground (key (s .1)) (key-below W (s .1) fine))
 
     abbrev Sr : Search F (W .constants) ks t
@@ -113,7 +113,7 @@ module _ {𝒜 : List Assertion} {F : Frame} {a : Assertion} (S : Framed 𝒜 F 
     met-old θ i h m =
         let f : Fact Expr = getD (a .body) i noFact in
         let arity = arity-map (W .verbs) θ f (S .proper .arities f (some-at noFact (a .body) i h)) in
-        within (told (S .heads)) H (m .0) (m .1 .among) (factAt S θ i) arity (sym (m .1 .row) ∙ body-is S θ i h)
+        within (told (S .sources)) H (m .0) (m .1 .among) (factAt S θ i) arity (sym (m .1 .row) ∙ body-is S θ i h)
 
     -- the entries of the facts before the given one are not of the round `last`
     abbrev pub Earlier : List ℕ → Type 0

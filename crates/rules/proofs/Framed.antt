@@ -23,7 +23,7 @@ use Rattle.fact.specs.Places.{factOf}
 use Rattle.rules.specs.Rows.{rowOf, noFact}
 use Rattle.rules.specs.Patterns.{Pattern, Frame}
 use Rattle.rules.specs.Cond.{field, headEntry, bodyRow}
-use Rattle.rules.specs.Proper.{Proper, HasAll, Below, Heads}
+use Rattle.rules.specs.Proper.{Proper, HasAll, Below, Sources}
 use Rattle.rules.specs.Laid.{noTest, Laid}
 use Rattle.rules.specs.Valid.{Valid}
 use Rattle.rules.proofs.MatchFacts.{Ground}
@@ -75,7 +75,7 @@ sound {W} {a} {p} P L = record {
 pub record Framed (𝒜 : List Assertion) (F : Frame) (a : Assertion) : Type 0 where
   pub few : length (F .world .constants) ≤ 255
   pub kinds : F .kinds ≡ map (λ (c : Constant). c .kind) (F .world .constants)
-  pub heads : (b : Assertion) → List·Memᴰ b 𝒜 → Heads (F .world) b
+  pub sources : Sources (F .world) 𝒜
   pub proper : Proper (F .world) a
   pub laid : Laid (F .world) a (F .pattern)
   pub counts : List·Memᴰ a 𝒜
@@ -143,7 +143,7 @@ module _ {𝒜 : List Assertion} {F : Frame} {a : Assertion} (S : Framed 𝒜 F 
   unfolding headEntry
   head-is θ m =
       let fit : Fitting W (headOf a d θ) = arity-map (W .verbs) θ (a .head) (S .proper .heads .arity) in
-      let depth = depth-small W 𝒜 (S .heads) d (S .depth) in
+      let depth = depth-small W 𝒜 (S .sources) d (S .depth) in
       let fine : Good W (headOf a d θ) =
       record { arity = fit; shape = S .proper .heads .shape θ; small = (S .proper .heads .issuer, depth, S .proper .heads .small θ m) } in
       let b : Below (map (bound θ) (con (a .issuer) ∷ con d ∷ F .pattern .head)) = subst Below (sym (head-bound θ)) (key-below W (headOf a d θ) fine) in

@@ -17,7 +17,9 @@ pub mod SemiNaive
 pub mod RoundLaw
 pub mod Good
 pub mod Shapes
+pub mod FamilyFacts
 pub mod UseFacts
+pub mod CoverFacts
 pub mod Framed
 pub mod Searching
 pub mod CondRule

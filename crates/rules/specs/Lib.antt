@@ -7,6 +7,7 @@ pub mod Valid
 pub mod Searching
 pub mod Planning
 pub mod Uses
+pub mod Families
 pub mod Rounds
 pub mod Proper
 pub mod Laid

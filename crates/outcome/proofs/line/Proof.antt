@@ -1,6 +1,6 @@
 -- For each outcome, what was written is its line: the laws of `Lines`.
 use borrow.Author.Needs.{needs}
-use Rattle.outcome.proofs.Lines.{allow-is, deny-is, policy-is, request-is, withdrawals-is, facts-are, answers-are}
+use Rattle.outcome.proofs.Lines.{allow-is, deny-is, policy-is, request-is, withdrawals-is, hierarchy-is, facts-are, answers-are}
 use Rattle.outcome.proofs.line.Statement.{statement}
 use Rattle.outcome.proofs.line.Tie as tie
 
@@ -40,14 +40,20 @@ returns-5 c =
 
 returns-6 : tie.Need-returns-6
 returns-6 c =
-    let told = c .before .before in
-    facts-are (told .before .before .args .o) (told .enum-told .given .1) (c .before .refusal-arg4 .given .0 .1) (c .refusal4 .ensures)
+    let known = c .before .before .before in
+    let g = known .o6 .given in
+    hierarchy-is (known .before .before .args .o) (g .0 .0) (g .0 .1 .0) (g .1) (c .before .refusal-arg4 .given .0 .1) (c .refusal4 .ensures)
 
 returns-7 : tie.Need-returns-7
 returns-7 c =
     let told = c .before .before in
+    facts-are (told .before .before .args .o) (told .enum-told .given .1) (c .before .refusal-arg5 .given .0 .1) (c .refusal5 .ensures)
+
+returns-8 : tie.Need-returns-8
+returns-8 c =
+    let told = c .before .before in
     let g = told .enum-told2 .given in
-    answers-are (told .before .before .args .o) (g .0 .0) (g .0 .1 .0) (g .1) (c .before .refusal-arg5 .given .0 .1) (c .refusal5 .ensures)
+    answers-are (told .before .before .args .o) (g .0 .0) (g .0 .1 .0) (g .1) (c .before .refusal-arg6 .given .0 .1) (c .refusal6 .ensures)
 
 pub line-spec : {M : Type 1} → statement M
 line-spec =
@@ -71,6 +77,9 @@ line-spec =
     (λ c. search needs)
     (λ c κs. search needs)
     (λ c. search needs)
+    (λ c. search needs)
+    (λ c κs. search needs)
+    (λ c. search needs)
     (λ c κs. search needs)
     (λ c. search needs)
     (λ c κs. search needs)
@@ -80,4 +89,5 @@ line-spec =
     returns-4
     returns-5
     returns-6
-    returns-7)
+    returns-7
+    returns-8)

@@ -26,8 +26,8 @@ told-requires c κs = small (c .before .o .given .1) (c .before .before .before 
 told-requires-2 : tie.Need-told-requires-2
 told-requires-2 c κs = small (c .before .o2 .given .1) (c .before .before .before .pre)
 
-refused-requires-5 : tie.Need-refused-requires-5
-refused-requires-5 c κs = small (c .before .o6 .given .1) (c .before .before .before .pre)
+refused-requires-6 : tie.Need-refused-requires-6
+refused-requires-6 c κs = small (c .before .o7 .given .1) (c .before .before .before .pre)
 
 returns : tie.Need-returns
 returns c = c .told .ensures ∙ same (c .before .before .o .given .1)
@@ -45,10 +45,13 @@ returns-5 : tie.Need-returns-5
 returns-5 c = c .refused3 .ensures ∙ same (c .before .before .o5 .given .1)
 
 returns-6 : tie.Need-returns-6
-returns-6 c = let e : c .before .before .before .args .o ≡ TooManyFacts = search needs in c .refused4 .ensures ∙ same e
+returns-6 c = c .refused4 .ensures ∙ same (c .before .before .o6 .given .1)
 
 returns-7 : tie.Need-returns-7
-returns-7 c = c .refused5 .ensures ∙ same (c .before .before .o6 .given .1)
+returns-7 c = let e : c .before .before .before .args .o ≡ TooManyFacts = search needs in c .refused5 .ensures ∙ same e
+
+returns-8 : tie.Need-returns-8
+returns-8 c = c .refused6 .ensures ∙ same (c .before .before .o7 .given .1)
 
 pub in-numbers-spec : {M : Type 1} → statement M
 in-numbers-spec =
@@ -67,11 +70,14 @@ in-numbers-spec =
     (λ c. search needs)
     (λ c κs. search needs)
     (λ c. search needs)
-    refused-requires-5
+    (λ c κs. search needs)
+    (λ c. search needs)
+    refused-requires-6
     returns
     returns-2
     returns-3
     returns-4
     returns-5
     returns-6
-    returns-7)
+    returns-7
+    returns-8)
