@@ -96,6 +96,20 @@ static void print_constants(FILE *out, const program *g) {
     }
 }
 
+/* The hierarchy: its levels, what is the same or below, and a fact with other parameters inside as many quotes. */
+static void print_levels(FILE *out, const program *g) {
+    for (unsigned v = 1; v <= g->verbs; v++)
+        for (unsigned i = 0; i < g->arity[v]; i++)
+            for (unsigned p = 0; p < g->constants; p++)
+                for (uint16_t n = g->first[v][i][p]; n != 0; n = g->level[n - 1].next) fprintf(out, "level(%u,%u,%u,%d).\n", v, i, p, g->level[n - 1].child);
+    fprintf(out, "#defined level/4.\nbelow(V,I,P,C) :- level(V,I,P,C).\nbelow(V,I,P,C) :- level(V,I,P,D), below(V,I,D,C).\n");
+    fprintf(out, "part(F) :- says(A,D,F).\npart(F) :- part(c(B,K,F)).\n");
+    fprintf(out, "some(V,0,P,P) :- part(f(S,V,P,Q,R)).\nsome(V,1,Q,Q) :- part(f(S,V,P,Q,R)).\nsome(V,2,R,R) :- part(f(S,V,P,Q,R)).\n");
+    fprintf(out, "some(V,I,P,C) :- below(V,I,P,C).\n");
+    fprintf(out, "lower(f(S,V,P,Q,R),f(S,V,X,Y,Z)) :- part(f(S,V,P,Q,R)), some(V,0,P,X), some(V,1,Q,Y), some(V,2,R,Z).\n");
+    fprintf(out, "lower(c(B,K,F),c(B,K,G)) :- part(c(B,K,F)), lower(F,G).\nsays(A,D,G) :- says(A,D,F), lower(F,G).\n");
+}
+
 static void print_program(FILE *out, const program *g) {
     fprintf(out, "#show.\n#defined number/2.\n#defined begins/2.\n#defined says/3.\ndepth(0..1).\n");
     fprintf(out, "year_after(%u,%u).\n", g->today, year_after(g->today));
@@ -151,6 +165,7 @@ clingo_report clingo_run(const slices *given, const char *path) {
     }
     read_program(&g, given);
     print_program(out, &g);
+    if (given->hierarchy.len > SECPAL_NONE_LEN) print_levels(out, &g);
     fclose(out);
     clingo_report r = {count_facts(path), 1e12};
     for (int i = 0; i < CLINGO_TURNS; i++) {

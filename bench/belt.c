@@ -22,7 +22,7 @@ int main(int argc, char **argv) {
     }
     read_file(&policy, argv[1], "policy.bin");
     read_file(&request, argv[1], "otto.bin");
-    slices s = {{policy.bytes, policy.len}, {request.bytes, request.len}, no_entries};
+    slices s = {{policy.bytes, policy.len}, {request.bytes, request.len}, no_entries, no_entries};
     double best = 1e9, start = now_us();
     for (int i = 0; i < TURNS; i++) {
         double from = now_us();

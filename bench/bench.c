@@ -42,9 +42,9 @@ static secpal_slice read_entries(file *f, const char *dir, const char *name) {
 }
 
 slices read_slices(const char *dir) {
-    static file policy, request, withdrawals;
+    static file policy, request, withdrawals, hierarchy;
     return (slices){read_slice(&policy, dir, "policy.bin"), read_slice(&request, dir, "request.bin"),
-                    read_entries(&withdrawals, dir, "withdrawals.bin")};
+                    read_entries(&withdrawals, dir, "withdrawals.bin"), read_entries(&hierarchy, dir, "hierarchy.bin")};
 }
 
 void write_file(const char *dir, const char *name, const uint8_t *bytes, size_t len) {

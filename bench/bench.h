@@ -17,7 +17,7 @@ typedef struct {
 
 /* What a decision reads. */
 typedef struct {
-    secpal_slice policy, request, withdrawals;
+    secpal_slice policy, request, withdrawals, hierarchy;
 } slices;
 
 /* A slice without entries. */
@@ -26,7 +26,7 @@ static const secpal_slice no_entries = {SECPAL_NONE, SECPAL_NONE_LEN};
 /* Reads DIR/NAME; ends the program where that fails. */
 void read_file(file *f, const char *dir, const char *name);
 
-/* A folder's policy.bin and request.bin, and withdrawals.bin where it has one; until the next call. */
+/* A folder's policy.bin and request.bin, and withdrawals.bin and hierarchy.bin where it has them; until the next call. */
 slices read_slices(const char *dir);
 
 /* Writes DIR/NAME, and makes the folder where it is missing; ends the program where that fails. */
@@ -40,8 +40,8 @@ double clock_ms(void);
 
 /* The engine's decision. */
 static inline secpal_report decide(const slices *s, uint8_t *facts, size_t facts_len, uint8_t *answers, size_t answers_len) {
-    return secpal_decide(s->policy.data, s->policy.len, s->request.data, s->request.len, s->withdrawals.data, s->withdrawals.len, facts, facts_len,
-                         answers, answers_len);
+    return secpal_decide(s->policy.data, s->policy.len, s->request.data, s->request.len, s->withdrawals.data, s->withdrawals.len, s->hierarchy.data,
+                         s->hierarchy.len, facts, facts_len, answers, answers_len);
 }
 
 #endif

@@ -115,7 +115,7 @@ static int row(const family *f, unsigned size) {
     f->write(size);
     ended(&policy);
     ask();
-    slices s = {{policy.bytes, policy.len}, {request.bytes, request.len}, no_entries};
+    slices s = {{policy.bytes, policy.len}, {request.bytes, request.len}, no_entries, no_entries};
     peer_report peer = peer_derive(&s, peer_facts, FACTS_LEN);
     secpal_report engine = {0};
     double best = 1e12;

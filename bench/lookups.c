@@ -22,8 +22,8 @@ static void verbs(void) { secpal_verbs(given.policy.data, given.policy.len, offs
 static void find(void) { secpal_find(given.policy.data, given.policy.len, SECPAL_PRINCIPAL, absent, sizeof absent - 1); }
 
 static void reach(void) {
-    secpal_reach(given.policy.data, given.policy.len, given.request.data, given.request.len, given.withdrawals.data, given.withdrawals.len, marks,
-                 sizeof marks);
+    secpal_reach(given.policy.data, given.policy.len, given.request.data, given.request.len, given.withdrawals.data, given.withdrawals.len,
+                 given.hierarchy.data, given.hierarchy.len, marks, sizeof marks);
 }
 
 static double mean(void (*call)(void)) {

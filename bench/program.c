@@ -124,6 +124,29 @@ static void withdraw(program *g, const uint8_t *withdrawals) {
     }
 }
 
+static void read_levels(program *g, const uint8_t *hierarchy) {
+    const uint8_t *p = hierarchy + 7;
+    memset(g->first, 0, sizeof g->first);
+    for (unsigned i = 0; i < two(hierarchy + 5); i++, p += 6) {
+        uint16_t *first = &g->first[p[0]][p[1] - 1][two(p + 2)];
+        g->level[i] = (level){(uint8_t)two(p + 4), *first};
+        *first = (uint16_t)(i + 1);
+    }
+}
+
+uint32_t descendants(const program *g, uint8_t verb, unsigned parameter, uint8_t constant, uint8_t found[255]) {
+    bool known[255] = {false};
+    uint32_t count = 0, next = 0;
+    for (uint8_t parent = constant;; parent = found[next++]) {
+        for (uint16_t i = g->first[verb][parameter][parent]; i != 0; i = g->level[i - 1].next) {
+            uint8_t child = g->level[i - 1].child;
+            if (!known[child]) found[count++] = child;
+            known[child] = true;
+        }
+        if (next == count) return count;
+    }
+}
+
 void read_program(program *g, const slices *given) {
     const uint8_t *policy = given->policy.data, *request = given->request.data, *p = policy + 7;
     g->constants = two(policy + 5);
@@ -139,6 +162,7 @@ void read_program(program *g, const slices *given) {
     memset(g->reached, 0, sizeof g->reached);
     g->today = four(request + 5);
     withdraw(g, given->withdrawals.data);
+    read_levels(g, given->hierarchy.data);
     reach_asked(g, request + 9);
     reach_on(g);
     uint32_t kept = 0;

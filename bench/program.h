@@ -1,4 +1,4 @@
-/* An accepted policy as plain C data: its constants, and the assertions that count for a request and are not withdrawn. */
+/* An accepted policy as plain C data: its constants, the assertions that count for a request and are not withdrawn, and the hierarchy. */
 #ifndef PROGRAM_H
 #define PROGRAM_H
 
@@ -30,16 +30,27 @@ typedef struct {
     test test[4];
 } rule;
 
+/* A child, and the next of its parent's; numbers from 1 on, 0 for none. */
+typedef struct {
+    uint8_t child;
+    uint16_t next;
+} level;
+
 typedef struct {
     uint32_t constants, verbs, rules, today;
     constant constant[255];
     uint8_t arity[65], parameter[65][3];
     bool reached[255];
     rule rule[256];
+    uint16_t first[65][3][255]; /* the first level below a constant as a parameter of a verb */
+    level level[1024];
 } program;
 
 /* Fills in the program of slices, which must be accepted ones. */
 void read_program(program *g, const slices *given);
+
+/* Writes what is below a constant as a parameter of a verb, over one level or more, and returns how many there are. */
+uint32_t descendants(const program *g, uint8_t verb, unsigned parameter, uint8_t constant, uint8_t found[255]);
 
 /* The day one year after, by the calendar. */
 uint32_t year_after(uint32_t day);

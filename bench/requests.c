@@ -60,7 +60,7 @@ static result timed(void (*node)(void), int denied) {
     }
     node();
     ended(&request);
-    slices s = {given.policy, {request.bytes, request.len}, given.withdrawals};
+    slices s = {given.policy, {request.bytes, request.len}, given.withdrawals, given.hierarchy};
     for (int i = 0; i < TURNS; i++) {
         double start = clock_ms();
         r.report = decide(&s, facts, FACTS_LEN, answers, ANSWERS_LEN);

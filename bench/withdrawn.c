@@ -64,7 +64,7 @@ static int row(const char *dir) {
     slices given = read_slices(dir);
     unsigned added = add_statements(given.policy);
     withdraw_all();
-    slices longer = {{policy.bytes, policy.len}, given.request, {withdrawals.bytes, withdrawals.len}};
+    slices longer = {{policy.bytes, policy.len}, given.request, {withdrawals.bytes, withdrawals.len}, given.hierarchy};
     secpal_report r, without;
     double ms_without = best_ms(&given, expected, &without), ms = best_ms(&longer, facts, &r);
     printf("| %s | %u | %u | %.3f | %.3f | %.2f |\n", base_name(dir), r.facts, added, ms, ms_without, ms / ms_without);

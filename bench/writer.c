@@ -1,4 +1,4 @@
-/* Writes the bytes of policies, requests and withdrawals. */
+/* Writes the bytes of policies, requests, withdrawals and hierarchies. */
 #include "writer.h"
 
 #include <stdio.h>
@@ -94,6 +94,14 @@ void withdrawn(writer *w, unsigned issuer, unsigned serial, unsigned tests) {
     put_two(w, issuer);
     put_four(w, serial);
     put_one(w, tests);
+}
+
+void leveled(writer *w, unsigned verb, unsigned position, unsigned parent, unsigned child) {
+    counted(w);
+    put_one(w, verb);
+    put_one(w, position);
+    put_two(w, parent);
+    put_two(w, child);
 }
 
 void fact(writer *w, unsigned subject, unsigned verb, unsigned arity, unsigned a, unsigned b, unsigned c) {

@@ -1,4 +1,4 @@
-/* Writes the bytes of policies, requests and withdrawals. */
+/* Writes the bytes of policies, requests, withdrawals and hierarchies. */
 #ifndef WRITER_H
 #define WRITER_H
 
@@ -36,6 +36,9 @@ void closed(writer *w);
 
 /* An entry of withdrawals; its tests follow. */
 void withdrawn(writer *w, unsigned issuer, unsigned serial, unsigned tests);
+
+/* An entry of a hierarchy. */
+void leveled(writer *w, unsigned verb, unsigned position, unsigned parent, unsigned child);
 
 /* A flat fact with the verb's parameters, and a test. */
 void fact(writer *w, unsigned subject, unsigned verb, unsigned arity, unsigned a, unsigned b, unsigned c);

@@ -1,7 +1,7 @@
 /*
- * A release desk's host to start from: desk [--facts] POLICY REQUEST [WITHDRAWALS] decides the request under the policy, without the statements that
- * are withdrawn, and says what came of it, in words; with --facts also every derived fact, by round. Exit status: 0 allow, 1 deny, 2 refused or an
- * error, so that `desk P Q && release` is right.
+ * A release desk's host to start from: desk [--facts] POLICY REQUEST [WITHDRAWALS [HIERARCHY]] decides the request under the policy, without the
+ * statements that are withdrawn, and says what came of it, in words; with --facts also every derived fact, by round. A dash stands for no withdrawals.
+ * Exit status: 0 allow, 1 deny, 2 refused or an error, so that `desk P Q && release` is right.
  */
 #include <stdio.h>
 #include <stdlib.h>
@@ -9,8 +9,8 @@
 
 #include "secpal.h"
 
-static uint8_t policy[65536], request[65536], withdrawals[65536], facts[SECPAL_RECORD * SECPAL_RECORDS], answers[65536];
-static size_t policy_len, request_len, withdrawals_len;
+static uint8_t policy[65536], request[65536], withdrawals[65536], hierarchy[65536], facts[SECPAL_RECORD * SECPAL_RECORDS], answers[65536];
+static size_t policy_len, request_len, withdrawals_len, hierarchy_len;
 
 static const char *const refusals[] = {
     "",
@@ -24,8 +24,9 @@ static const char *const refusals[] = {
     "more facts are derivable than there is room for",
     "there are more answers than there is room for",
     "an entry has a variable",
+    "an entry has one constant as parent and child",
 };
-static const char *const sides[] = {"", " in the policy", " in the request", " in the withdrawals"};
+static const char *const sides[] = {"", " in the policy", " in the request", " in the withdrawals", " in the hierarchy"};
 
 static size_t load(const char *path, uint8_t *to, size_t room)
 {
@@ -39,15 +40,13 @@ static size_t load(const char *path, uint8_t *to, size_t room)
     return n;
 }
 
-/* Withdrawals may be left out: then none are lent. */
-static void load_withdrawals(const char *path)
+/* A file of entries may be left out, or a dash stand for it: then none are lent. */
+static size_t load_entries(const char *path, uint8_t *to, size_t room)
 {
-    if (path) {
-        withdrawals_len = load(path, withdrawals, sizeof withdrawals);
-    } else {
-        withdrawals_len = SECPAL_NONE_LEN;
-        memcpy(withdrawals, SECPAL_NONE, SECPAL_NONE_LEN);
-    }
+    if (path && strcmp(path, "-") != 0)
+        return load(path, to, room);
+    memcpy(to, SECPAL_NONE, SECPAL_NONE_LEN);
+    return SECPAL_NONE_LEN;
 }
 
 static unsigned u16_at(const uint8_t *s, size_t at) { return s[at] * 256u + s[at + 1]; }
@@ -229,14 +228,15 @@ int main(int argc, char **argv)
     int with_facts = argc > 1 && strcmp(argv[1], "--facts") == 0;
     char **files = argv + 1 + with_facts; /* argv ends with NULL */
     int count = argc - 1 - with_facts;
-    if (count < 2 || count > 3)
-        return fprintf(stderr, "usage: %s [--facts] POLICY REQUEST [WITHDRAWALS]\n", argv[0]), EXIT_NO_ANSWER;
+    if (count < 2 || count > 4)
+        return fprintf(stderr, "usage: %s [--facts] POLICY REQUEST [WITHDRAWALS [HIERARCHY]]\n", argv[0]), EXIT_NO_ANSWER;
     policy_len = load(files[0], policy, sizeof policy);
     request_len = load(files[1], request, sizeof request);
-    load_withdrawals(files[2]);
+    withdrawals_len = load_entries(files[2], withdrawals, sizeof withdrawals);
+    hierarchy_len = load_entries(count == 4 ? files[3] : NULL, hierarchy, sizeof hierarchy);
 
-    secpal_report r = secpal_decide(policy, policy_len, request, request_len, withdrawals, withdrawals_len, facts, sizeof facts, answers,
-                                    sizeof answers);
+    secpal_report r = secpal_decide(policy, policy_len, request, request_len, withdrawals, withdrawals_len, hierarchy, hierarchy_len, facts,
+                                    sizeof facts, answers, sizeof answers);
 
     if (r.decision == SECPAL_REFUSED) {
         printf("refused (%u): %s", (unsigned)r.refusal, refusals[r.refusal]);

@@ -2,10 +2,11 @@
  * The engine's interface for C. Link with build/libengine.a, which scripts/library builds, or, where it is installed, with what
  * `pkg-config --cflags --libs secpal` says.
  *
- * docs/FORMAT.md has the layout of policies, requests, withdrawals, records and answers to the byte, and every refusal with its condition and place.
+ * docs/FORMAT.md has the layout of policies, requests, withdrawals, hierarchies, records and answers to the byte, and every refusal with its
+ * condition and place.
  *
  * What a call costs: each call but secpal_version reads the policy once, from front to back: about 0.001 ms for the belt policy of 114 bytes,
- * 0.02 ms for one of 6,000 bytes with 255 constants. secpal_reach and secpal_decide then read the request and the withdrawals. secpal_decide derives, which takes as
+ * 0.02 ms for one of 6,000 bytes with 255 constants. secpal_reach and secpal_decide then read the other slices. secpal_decide derives, which takes as
  * long as the policy makes it take: from 0.004 ms to many minutes. NO CALL HAS A LIMIT OF TIME. Every call ends, by proof, but a host that takes
  * policies from strangers should run secpal_decide where it can give it up, in a process of its own. docs/SPEED.md has figures.
  *
@@ -25,7 +26,7 @@ extern "C" {
 
 /* The limits, by name. crates/engine has them under the same names. */
 enum {
-    SECPAL_VERSION = 1,       /* the first byte of a policy, a request and withdrawals */
+    SECPAL_VERSION = 1,       /* the first byte of each slice */
     SECPAL_CONSTANTS = 255,   /* constants in a policy */
     SECPAL_VERBS = 64,        /* verbs in a policy, beside verb 0, "can act as" */
     SECPAL_ASSERTIONS = 256,  /* assertions in a policy */
@@ -35,6 +36,7 @@ enum {
     SECPAL_BODY = 4,          /* body facts of an assertion */
     SECPAL_CONSTRAINTS = 4,   /* constraints of an assertion or an entry */
     SECPAL_WITHDRAWALS = 256, /* entries of withdrawals */
+    SECPAL_HIERARCHY = 1024,  /* entries of a hierarchy */
     SECPAL_VARIABLES = 8,     /* variables of an assertion or a request */
     SECPAL_PARTS = 8,         /* parts of an all-of or any-of */
     SECPAL_DEPTH = 8,         /* nodes inside each other */
@@ -79,13 +81,15 @@ enum {
     SECPAL_UNSAFE_REQUEST = 7,
     SECPAL_TOO_MANY_FACTS = 8,
     SECPAL_TOO_MANY_ANSWERS = 9,
-    SECPAL_OPEN_WITHDRAWAL = 10  /* an entry of withdrawals with a variable */
+    SECPAL_OPEN_WITHDRAWAL = 10, /* an entry of withdrawals with a variable */
+    SECPAL_OWN_CHILD = 11        /* an entry of a hierarchy whose parent and child are one */
 };
 
 /* secpal_report.side: where a refusal's place is; none with 8 and 9 */
-enum { SECPAL_SIDE_NONE = 0, SECPAL_SIDE_POLICY = 1, SECPAL_SIDE_REQUEST = 2, SECPAL_SIDE_WITHDRAWALS = 3 };
+enum { SECPAL_SIDE_NONE = 0, SECPAL_SIDE_POLICY = 1, SECPAL_SIDE_REQUEST = 2, SECPAL_SIDE_WITHDRAWALS = 3, SECPAL_SIDE_HIERARCHY = 4 };
 
-/* A slice without entries, for a caller that has no withdrawals: secpal_decide(.., SECPAL_NONE, SECPAL_NONE_LEN, ..). No bytes at all are refused. */
+/* A slice without entries, for a caller that has no withdrawals or no hierarchy: secpal_decide(.., SECPAL_NONE, SECPAL_NONE_LEN, ..). No bytes at all
+   are refused. */
 #define SECPAL_NONE ((const uint8_t *)"\1\0\0\0\2\0")
 #define SECPAL_NONE_LEN ((size_t)7)
 
@@ -103,9 +107,10 @@ typedef struct {
  * Decides a request under a policy, without the statements that are withdrawn.
  *
  * policy, request,  the bytes, read only, of any content and any length, and in this order. An entry of withdrawals removes every assertion of
- * withdrawals       its issuer and serial while its constraints hold on the request's day; SECPAL_NONE has no entries
+ * withdrawals,      its issuer and serial while its constraints hold on the request's day. An entry of the hierarchy says for a parameter of a verb
+ * hierarchy         that a child is below its parent: what is said with a constant is also said with those below it. SECPAL_NONE has no entries
  * facts             lent for the facts: room for facts_len / 16 records, at most 65,535 of them. Afterwards: with a refusal from the input (1 to 7,
- *                   10) as it was; with 8 all 0; else the records in ascending order of their bytes 2 to 15, and 0 after them
+ *                   10, 11) as it was; with 8 all 0; else the records in ascending order of their bytes 2 to 15, and 0 after them
  * answers           lent for the answers: room for answers_len / 8. Afterwards: with a refusal from the input and with 8 as it was; with 9 all 0;
  *                   else the answers in ascending order, a constant's number for each of the eight variables, 255 where one is not free, and 0
  *                   after them
@@ -115,7 +120,7 @@ typedef struct {
  * with a fact buffer of at most 65,536 bytes, below 1,000,000 with a larger one, on all that was tried (tests/stack measures both on each check).
  */
 secpal_report secpal_decide(const uint8_t *policy, size_t policy_len, const uint8_t *request, size_t request_len,
-                            const uint8_t *withdrawals, size_t withdrawals_len,
+                            const uint8_t *withdrawals, size_t withdrawals_len, const uint8_t *hierarchy, size_t hierarchy_len,
                             uint8_t *facts, size_t facts_len, uint8_t *answers, size_t answers_len);
 
 /* A part of the policy's bytes. */
@@ -154,13 +159,13 @@ uint32_t secpal_find(const uint8_t *policy, size_t policy_len, uint32_t kind, co
  * Whose words count for this request: marks[i] becomes 1 if constant i is a principal in the request's reach, and 0 otherwise, for all of
  * marks_len. The reach is the least set of principals that has every issuer in the request's says nodes and, for each assertion issued in the
  * set and not withdrawn, the outermost speaker of a nested head and the subject of a flat head with verb 0; where one of these is a variable, all
- * principals join.
+ * principals join. The hierarchy brings nobody in.
  * Nobody outside can change a byte of the decision: whatever statements they add, result and both buffers stay the same
- * (demand 3 of docs/PROOFS.md). No derivation is done. With a refusal from the input (1 to 7, 10) the report's refusal, side and place are those
+ * (demand 3 of docs/PROOFS.md). No derivation is done. With a refusal from the input (1 to 7, 10, 11) the report's refusal, side and place are those
  * that secpal_decide would give, and the marks are as they were; otherwise all fields of the report are 0, and the marks are written.
  */
 secpal_report secpal_reach(const uint8_t *policy, size_t policy_len, const uint8_t *request, size_t request_len,
-                           const uint8_t *withdrawals, size_t withdrawals_len,
+                           const uint8_t *withdrawals, size_t withdrawals_len, const uint8_t *hierarchy, size_t hierarchy_len,
                            uint8_t *marks, size_t marks_len);
 
 /* The library's version: major * 65536 + minor * 256 + patch. */

@@ -43,8 +43,8 @@ _BUFFER = [ctypes.c_void_p, ctypes.c_size_t]
 
 # What each function takes and returns; bindings/python/test_secpal.py compares it with the header.
 SIGNATURES = {
-    "secpal_decide": (_BYTES * 3 + _BUFFER + _BUFFER, _Report),
-    "secpal_reach": (_BYTES * 3 + _BUFFER, _Report),
+    "secpal_decide": (_BYTES * 4 + _BUFFER + _BUFFER, _Report),
+    "secpal_reach": (_BYTES * 4 + _BUFFER, _Report),
     "secpal_label": (_BYTES + [ctypes.c_uint32, ctypes.POINTER(_Slice)], None),
     "secpal_constants": (_BYTES + _BUFFER, ctypes.c_uint32),
     "secpal_verbs": (_BYTES + _BUFFER, ctypes.c_uint32),
@@ -70,7 +70,7 @@ Decision = namedtuple("Decision", "allowed facts rounds answers")
 
 
 class Refused(Exception):
-    """A refusal: its number, the side (0 none, 1 policy, 2 request, 3 withdrawals) and the place, an offset."""
+    """A refusal: its number, the side (0 none, 1 policy, 2 request, 3 withdrawals, 4 hierarchy) and the place, an offset."""
 
     def __init__(self, number, side, place):
         super().__init__(f"refused {number}, side {side}, place {place}")
@@ -87,12 +87,12 @@ def _lent(*slices):
     return [part for slice in slices for part in (slice, len(slice))]
 
 
-def decide(policy, request, withdrawals=NONE, room_for_facts=RECORDS, room_for_answers=65536):
+def decide(policy, request, withdrawals=NONE, hierarchy=NONE, room_for_facts=RECORDS, room_for_answers=65536):
     """Decides; raises Refused. Facts are records of 16 bytes, answers are {variable: constant}."""
     facts = ctypes.create_string_buffer(max(RECORD * room_for_facts, 1))
     answers = ctypes.create_string_buffer(max(ANSWER * room_for_answers, 1))
     report = _library.secpal_decide(
-        *_lent(policy, request, withdrawals), facts, RECORD * room_for_facts, answers, ANSWER * room_for_answers
+        *_lent(policy, request, withdrawals, hierarchy), facts, RECORD * room_for_facts, answers, ANSWER * room_for_answers
     )
     _refuse(report)
     records = [facts.raw[RECORD * i : RECORD * (i + 1)] for i in range(report.facts)]
@@ -108,10 +108,10 @@ def fact(record):
     return Fact(256 * record[0] + record[1], record[2], record[3] == 1, speakers, record[11], record[12], list(record[13:16]))
 
 
-def reach(policy, request, withdrawals=NONE):
+def reach(policy, request, withdrawals=NONE, hierarchy=NONE):
     """The numbers of the principals whose words count for the request; raises Refused."""
     marks = ctypes.create_string_buffer(CONSTANTS)
-    _refuse(_library.secpal_reach(*_lent(policy, request, withdrawals), marks, CONSTANTS))
+    _refuse(_library.secpal_reach(*_lent(policy, request, withdrawals, hierarchy), marks, CONSTANTS))
     return [number for number, mark in enumerate(marks.raw) if mark]
 
 

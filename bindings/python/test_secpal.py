@@ -10,8 +10,8 @@ ROOT = Path(__file__).resolve().parents[2]
 HEADER = re.sub(r"/\*.*?\*/", "", (ROOT / "host" / "secpal.h").read_text(), flags=re.S)
 
 
-def example(name):
-    return (ROOT / "examples" / "belt" / f"{name}.bin").read_bytes()
+def example(name, folder="belt"):
+    return (ROOT / "examples" / folder / f"{name}.bin").read_bytes()
 
 
 class Belt(unittest.TestCase):
@@ -32,7 +32,7 @@ class Belt(unittest.TestCase):
             secpal.decide(self.policy, example("otto"), room_for_facts=9)
         self.assertEqual((caught.exception.number, caught.exception.side, caught.exception.place), (8, 0, 0))
         with self.assertRaises(secpal.Refused):
-            secpal.decide(b"", b"", secpal.NONE, 0, 0)
+            secpal.decide(b"", b"", room_for_facts=0, room_for_answers=0)
         with self.assertRaises(secpal.Refused):
             secpal.reach(self.policy, self.policy)
 
@@ -44,6 +44,14 @@ class Belt(unittest.TestCase):
         with self.assertRaises(secpal.Refused) as caught:
             secpal.decide(self.policy, example("otto"), b"")
         self.assertEqual((caught.exception.number, caught.exception.side, caught.exception.place), (1, 3, 0))
+
+    def test_hierarchy(self):
+        policy, request, hierarchy = (example(name, "parts") for name in ("policy", "request", "hierarchy"))
+        self.assertFalse(secpal.decide(policy, request).allowed)
+        self.assertTrue(secpal.decide(policy, request, hierarchy=hierarchy).allowed)
+        with self.assertRaises(secpal.Refused) as caught:
+            secpal.decide(policy, request, hierarchy=b"")
+        self.assertEqual((caught.exception.number, caught.exception.side, caught.exception.place), (1, 4, 0))
 
     def test_names(self):
         self.assertEqual(secpal.constants(self.policy), [7, 14, 21, 27])

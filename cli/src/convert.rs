@@ -5,8 +5,13 @@ pub trait Convert<A: Form, B: Form> {
     type Error;
 
     fn expression(&mut self, expression: &At<A::Expression>) -> Result<B::Expression, Self::Error>;
-    fn verb(&mut self, verb: &At<A::Verb>, parameters: &[At<A::Expression>]) -> Result<B::Verb, Self::Error>;
+    fn verb(&mut self, verb: &At<A::Verb>) -> Result<B::Verb, Self::Error>;
     fn variable(&mut self, variable: &At<A::Variable>) -> Result<B::Variable, Self::Error>;
+
+    /// A verb with its parameters, where they are of interest.
+    fn verb_with(&mut self, verb: &At<A::Verb>, _parameters: &[At<A::Expression>]) -> Result<B::Verb, Self::Error> {
+        self.verb(verb)
+    }
 
     fn at(&mut self, expression: &At<A::Expression>) -> Result<At<B::Expression>, Self::Error> {
         Ok(At { it: self.expression(expression)?, span: expression.span })
@@ -20,7 +25,7 @@ pub trait Convert<A: Form, B: Form> {
         Ok(Fact {
             speakers,
             subject: self.at(&fact.subject)?,
-            verb: At { it: self.verb(&fact.verb, &fact.parameters)?, span: fact.verb.span },
+            verb: At { it: self.verb_with(&fact.verb, &fact.parameters)?, span: fact.verb.span },
             parameters: fact.parameters.iter().map(|p| self.at(p)).collect::<Result<_, _>>()?,
             span: fact.span,
         })
@@ -56,6 +61,16 @@ pub trait Convert<A: Form, B: Form> {
             serial: withdrawal.serial,
             constraints: self.constraints(&withdrawal.constraints)?,
             span: withdrawal.span,
+        })
+    }
+
+    fn family(&mut self, family: &Family<A>) -> Result<Family<B>, Self::Error> {
+        Ok(Family {
+            verb: At { it: self.verb(&family.verb)?, span: family.verb.span },
+            position: family.position.clone(),
+            parent: self.at(&family.parent)?,
+            children: family.children.iter().map(|child| self.at(child)).collect::<Result<_, _>>()?,
+            span: family.span,
         })
     }
 

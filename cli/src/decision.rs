@@ -1,5 +1,5 @@
 //! A decision in words: what was asked, what came of it, the answers, the facts by round.
-use crate::source::{Asked, Policy, Problem};
+use crate::source::{Asked, Entries, Policy, Problem};
 use language::convert::Convert;
 use language::json::Json;
 use language::syntax::Variable;
@@ -24,6 +24,15 @@ pub fn decide(policy: &Policy, asked: &Asked) -> Result<Decision, Problem> {
         Verdict::Refused(refusal) => Err(Problem { refusal: Some(refusal), ..Problem::new(&asked.file, explain::general(refusal.number)) }),
         verdict => Ok(Decision { allowed: verdict == Verdict::Allow, report, facts, answers }),
     }
+}
+
+/// "the statements of a file", and what stands beside it.
+fn grounds(policy: &Policy) -> String {
+    let beside =
+        |entries: &Option<Entries>, words: &dyn Fn(&str) -> String| entries.as_ref().map_or(String::new(), |given| words(&given.file));
+    let families = beside(&policy.hierarchy, &|file| format!(" and the families of {file}"));
+    let withdrawn = beside(&policy.withdrawals, &|file| format!(", without those that {file} withdraws,"));
+    format!("the statements of {}{families}{withdrawn}", policy.file)
 }
 
 pub fn question(asked: &Asked) -> String {
@@ -75,9 +84,7 @@ impl Decision {
         let mut lines = vec![format!("{}: {}", self.word(), question(asked))];
         if !self.allowed {
             let today = calendar::date(asked.text.today.it);
-            let withdrawn =
-                policy.withdrawals.as_ref().map_or(String::new(), |given| format!(", without those that {} withdraws,", given.file));
-            lines.push(format!("  does not follow from the statements of {}{withdrawn} on {today}", policy.file));
+            lines.push(format!("  does not follow from {} on {today}", grounds(policy)));
         }
         for answer in self.named(policy, asked).iter().filter(|answer| !answer.is_empty()) {
             let bindings: Vec<String> = answer.iter().map(|(variable, constant)| format!("{variable} = {constant}")).collect();

@@ -75,6 +75,12 @@ impl Reader<'_> {
         Some(Withdrawal { issuer: self.expression()?, serial: self.four()?, constraints: self.constraints()?, span: Span::default() })
     }
 
+    /// An entry, as a family with one child.
+    fn family(&mut self) -> Option<Family<Numbers>> {
+        let (verb, position) = (at(self.byte()?), at(self.byte()?));
+        Some(Family { verb, position, parent: self.expression()?, children: vec![self.expression()?], span: Span::default() })
+    }
+
     fn nodes(&mut self) -> Option<Vec<Node<Numbers>>> {
         let count = self.byte()? as usize;
         self.times(count, Reader::node)
@@ -168,6 +174,21 @@ pub fn withdrawals(bytes: &[u8]) -> Option<Withdrawals<Numbers>> {
     let mut reader = Reader { bytes, place: 1 + 4, arities: vec![] };
     let count = reader.two()? as usize;
     Some(Withdrawals { version: at(bytes[0]), entries: reader.times(count, Reader::withdrawal)? })
+}
+
+/// A hierarchy that is accepted under some policy. Entries that stand behind each other and differ in their child alone are one family.
+pub fn hierarchy(bytes: &[u8]) -> Option<Hierarchy<Numbers>> {
+    let mut reader = Reader { bytes, place: 1 + 4, arities: vec![] };
+    let count = reader.two()? as usize;
+    let mut families: Vec<Family<Numbers>> = vec![];
+    for entry in reader.times(count, Reader::family)? {
+        let key = |family: &Family<Numbers>| (family.verb.it, family.position.it, family.parent.it);
+        match families.last_mut() {
+            Some(last) if key(last) == key(&entry) => last.children.extend(entry.children),
+            _ => families.push(entry),
+        }
+    }
+    Some(Hierarchy { version: at(bytes[0]), families })
 }
 
 /// A fact of the fact buffer: its round, issuer, depth, and what is said.

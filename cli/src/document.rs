@@ -10,6 +10,7 @@ pub enum Item {
     Verb(Verb),
     Assertion(Assertion<Text>),
     Withdrawal(Withdrawal<Text>),
+    Family(Family<Text>),
     Request(Request<Text>),
     Today(u32),
     Expectation(Expectation),
@@ -52,7 +53,8 @@ impl Item {
             Item::Version(_) => Section::Version,
             Item::Constants(..) => Section::Constants,
             Item::Verb(_) => Section::Verbs,
-            Item::Assertion(_) | Item::Withdrawal(_) | Item::Request(_) | Item::Today(_) | Item::Expectation(_) => Section::Statements,
+            Item::Assertion(_) | Item::Withdrawal(_) | Item::Family(_) => Section::Statements,
+            Item::Request(_) | Item::Today(_) | Item::Expectation(_) => Section::Statements,
         }
     }
 }
@@ -92,15 +94,22 @@ pub fn policy(text: &str) -> Parsed<Document> {
     Ok(Document { items, comments: p.comments })
 }
 
-pub fn withdrawals(text: &str) -> Parsed<Document> {
+/// A text of sentences of one sort.
+fn sentences(text: &str, sentence: impl Fn(&mut Parser) -> Parsed<At<Item>>) -> Parsed<Document> {
     let mut p = Parser::new(text)?;
     let mut items = version(&mut p)?;
     while p.peek().token != Token::End {
-        let withdrawal = p.withdrawal()?;
-        let span = withdrawal.span;
-        items.push(At { it: Item::Withdrawal(withdrawal), span });
+        items.push(sentence(&mut p)?);
     }
     Ok(Document { items, comments: p.comments })
+}
+
+pub fn withdrawals(text: &str) -> Parsed<Document> {
+    sentences(text, |p| p.withdrawal().map(|withdrawal| At { span: withdrawal.span, it: Item::Withdrawal(withdrawal) }))
+}
+
+pub fn hierarchy(text: &str) -> Parsed<Document> {
+    sentences(text, |p| p.family().map(|family| At { span: family.span, it: Item::Family(family) }))
 }
 
 pub fn request(text: &str) -> Parsed<Document> {
@@ -170,12 +179,16 @@ fn binding(p: &mut Parser) -> Parsed<(At<Variable>, At<Name>)> {
     Ok((At { it: variable, span }, p.expression("a constant")?))
 }
 
-/// A text of any sort: one that begins with `on DATE ask` is a request, with `on` alone a file of expectations, with `withdraw` withdrawals.
+/// A text of any sort: one that begins with `on DATE ask` is a request, with `on` alone a file of expectations, with `withdraw` withdrawals, with
+/// `family` a hierarchy.
 pub fn any(text: &str) -> Parsed<Document> {
     let mut p = Parser::new(text)?;
     p.version()?;
     if p.is_word("withdraw") {
         return withdrawals(text);
+    }
+    if p.is_word("family") {
+        return hierarchy(text);
     }
     if !p.is_word("on") {
         return policy(text);
@@ -197,7 +210,7 @@ impl Document {
                 Item::Constants(_, constants) => policy.constants.extend(constants.iter().cloned()),
                 Item::Verb(verb) => policy.verbs.push(At { it: verb.clone(), span: *span }),
                 Item::Assertion(assertion) => policy.assertions.push(assertion.clone()),
-                Item::Version(_) | Item::Withdrawal(_) | Item::Request(_) | Item::Today(_) | Item::Expectation(_) => {}
+                _ => {}
             }
         }
         policy
@@ -210,6 +223,15 @@ impl Document {
             _ => None,
         };
         Withdrawals { version: self.version(), entries: self.items.iter().filter_map(entry).collect() }
+    }
+
+    /// The hierarchy that a document of `hierarchy` says.
+    pub fn to_hierarchy(&self) -> Hierarchy<Text> {
+        let family = |at: &At<Item>| match &at.it {
+            Item::Family(family) => Some(family.clone()),
+            _ => None,
+        };
+        Hierarchy { version: self.version(), families: self.items.iter().filter_map(family).collect() }
     }
 
     /// The version that is written, or 1.
@@ -244,6 +266,12 @@ impl Document {
     pub fn of_withdrawals(withdrawals: &Withdrawals<Text>) -> Document {
         let mut items = vec![Item::Version(withdrawals.version.it)];
         items.extend(withdrawals.entries.iter().map(|entry| Item::Withdrawal(entry.clone())));
+        Document::of_items(items)
+    }
+
+    pub fn of_hierarchy(hierarchy: &Hierarchy<Text>) -> Document {
+        let mut items = vec![Item::Version(hierarchy.version.it)];
+        items.extend(hierarchy.families.iter().map(|family| Item::Family(family.clone())));
         Document::of_items(items)
     }
 

@@ -110,6 +110,16 @@ impl Compiled {
         self.constraints(&withdrawal.constraints, withdrawal.span)
     }
 
+    fn family(&mut self, family: &Family<Numbers>) {
+        for child in &family.children {
+            self.note(child.span);
+            self.byte(family.verb.it);
+            self.byte(family.position.it);
+            self.two(family.parent.it);
+            self.two(child.it);
+        }
+    }
+
     fn assertion(&mut self, assertion: &Assertion<Numbers>) -> Result<(), Fault> {
         self.note(assertion.span);
         let from = self.bytes.len();
@@ -189,4 +199,11 @@ pub fn withdrawals(withdrawals: &Withdrawals<Numbers>) -> Result<Compiled, Fault
     out.two(withdrawals.entries.len() as u16);
     withdrawals.entries.iter().try_for_each(|entry| out.withdrawal(entry))?;
     Ok(out.close())
+}
+
+pub fn hierarchy(hierarchy: &Hierarchy<Numbers>) -> Compiled {
+    let mut out = Compiled::start(&hierarchy.version);
+    out.two(hierarchy.families.iter().map(|family| family.children.len() as u16).sum());
+    hierarchy.families.iter().for_each(|family| out.family(family));
+    out.close()
 }

@@ -22,6 +22,7 @@ pub fn general(number: u32) -> &'static str {
         limits::TOO_MANY_FACTS => "more facts are derivable than there is room for",
         limits::TOO_MANY_ANSWERS => "there are more answers than there is room for",
         limits::OPEN_WITHDRAWAL => "a withdrawal has a variable",
+        limits::OWN_CHILD => "a family has itself as a member",
         _ => "refused",
     }
 }
@@ -145,6 +146,17 @@ fn node_form(node: &Node<Numbers>, depth: usize, span: Span) -> Option<String> {
     }
 }
 
+/// What is wrong with the child that stands at `span` of a text of families, or with its family.
+pub fn hierarchy(hierarchy: &Hierarchy<Numbers>, names: &Names, number: u32, span: Span) -> Words {
+    let child = |family: &Family<Numbers>| family.children.iter().find(|child| child.span == span).cloned();
+    let found = hierarchy.families.iter().find_map(|family| Some((family, child(family)?)));
+    let words = match (number, found) {
+        (limits::NO_FIT, Some((family, child))) => Fit::new(names).family(family, &child).err(),
+        _ => None,
+    };
+    words.unwrap_or((span, general(number).to_string()))
+}
+
 // ---- kinds
 
 /// The kinds of variables so far, from front to back.
@@ -230,6 +242,23 @@ impl<'a> Fit<'a> {
     fn withdrawal(&mut self, entry: &Withdrawal<Numbers>) -> Result<(), Words> {
         self.place(&entry.issuer, Kind::Principal)?;
         entry.constraints.iter().try_for_each(|constraint| self.constraint(constraint))
+    }
+
+    fn family(&mut self, family: &Family<Numbers>, child: &At<u16>) -> Result<(), Words> {
+        let verb = match family.verb.it {
+            0 => return Err((family.verb.span, "\"can act as\" has no families".to_string())),
+            number => &self.names.verbs[number as usize - 1],
+        };
+        let Some(kind) = usize::from(family.position.it).checked_sub(1).and_then(|i| verb.kinds.get(i)).copied() else {
+            return Err((family.position.span, print::parameters(&VerbName::Label(verb.label.clone()), &verb.kinds)));
+        };
+        for member in [&family.parent, child] {
+            if member.it >= TODAY {
+                return Err((member.span, "a family has constants alone".to_string()));
+            }
+            self.place(member, kind)?;
+        }
+        Ok(())
     }
 
     fn node(&mut self, node: &Node<Numbers>) -> Result<(), Words> {

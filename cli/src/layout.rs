@@ -11,6 +11,7 @@ fn item_text(item: &Item) -> String {
         Item::Verb(verb) => print::verb(verb),
         Item::Assertion(assertion) => print::assertion(assertion),
         Item::Withdrawal(withdrawal) => print::withdrawal(withdrawal),
+        Item::Family(family) => print::family(family),
         Item::Request(request) => print::request(request),
         Item::Today(day) => format!("on {}", crate::calendar::date(*day)),
         Item::Expectation(expectation) => expectation_text(expectation),

@@ -40,6 +40,11 @@ pub fn compile_withdrawals(names: &Names, text: &str) -> Result<Compiled, Fault>
     encode::withdrawals(&resolve::withdrawals(names, &document::withdrawals(text)?.to_withdrawals())?)
 }
 
+/// The bytes of a text of families under a policy with these names.
+pub fn compile_hierarchy(names: &Names, text: &str) -> Result<Compiled, Fault> {
+    Ok(encode::hierarchy(&resolve::hierarchy(names, &document::hierarchy(text)?.to_hierarchy())?))
+}
+
 /// The names of an accepted policy.
 pub fn names(policy: &[u8]) -> Option<Names> {
     Some(Names::new(decode::constants(policy)?, decode::verbs(policy)?)).filter(|names| !names.constants.is_empty())
@@ -62,6 +67,12 @@ pub fn show_request(names: &Names, request: &[u8]) -> Option<String> {
 pub fn show_withdrawals(names: &Names, withdrawals: &[u8]) -> Option<String> {
     let text = unresolve::withdrawals(&decode::withdrawals(withdrawals)?, names).ok()?;
     Some(layout::format("", &document::Document::of_withdrawals(&text)))
+}
+
+/// The text of a hierarchy that is accepted under the policy with these names.
+pub fn show_hierarchy(names: &Names, hierarchy: &[u8]) -> Option<String> {
+    let text = unresolve::hierarchy(&decode::hierarchy(hierarchy)?, names).ok()?;
+    Some(layout::format("", &document::Document::of_hierarchy(&text)))
 }
 
 /// A text of any sort in its layout.

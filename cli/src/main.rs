@@ -1,10 +1,10 @@
-//! `secpal`: policies, requests and withdrawals in words. docs/LANGUAGE.md has the language, man/secpal.1 the commands.
+//! `secpal`: policies, requests, withdrawals and hierarchies in words. docs/LANGUAGE.md has the language, man/secpal.1 the commands.
 mod decision;
 mod expect;
 mod source;
 
 use language::json::Json;
-use language::{explain, show_policy, show_request, show_withdrawals};
+use language::{explain, show_hierarchy, show_policy, show_request, show_withdrawals};
 use secpal::limits;
 use source::{Content, Policy, Problem};
 use std::io::{IsTerminal, Write};
@@ -23,8 +23,10 @@ usage: secpal COMMAND [--json]
   limits | version
 POLICY and REQUEST are files, in words or in bytes; REQUEST may also be the request itself:
   secpal decide belt.secpal 'on 2026-11-16 ask Works says Otto may-order encoder'
---withdrawals FILE, with each POLICY: the statements that FILE withdraws do not count. Without a REQUEST,
-compile and show write the withdrawals themselves.
+With each POLICY:
+  --withdrawals FILE   the statements that FILE withdraws do not count
+  --hierarchy FILE     what holds of a family holds of its members
+Without a REQUEST, compile and show write FILE.
 Exit status: 0 allow, or all well; 1 deny, or an expectation not met; 2 refused, or an error.";
 
 /// What a command answers, and what it writes.
@@ -48,12 +50,13 @@ struct Arguments {
     write: bool,
     output: Option<String>,
     withdrawals: Option<String>,
+    hierarchy: Option<String>,
     words: Vec<String>,
 }
 
 impl Arguments {
     fn policy(&self, path: &str) -> Result<Policy, Problem> {
-        source::policy(path, self.withdrawals.as_deref())
+        source::policy(path, self.withdrawals.as_deref(), self.hierarchy.as_deref())
     }
 
     /// A line of words or, where that is asked for, of JSON.
@@ -74,6 +77,7 @@ fn arguments() -> Result<Arguments, Problem> {
             "-w" => out.write = true,
             "-o" => out.output = Some(file("-o", given.next())?),
             "--withdrawals" => out.withdrawals = Some(file("--withdrawals", given.next())?),
+            "--hierarchy" => out.hierarchy = Some(file("--hierarchy", given.next())?),
             "--help" | "-h" => out.words.insert(0, "help".to_string()),
             "--version" => out.words.insert(0, "version".to_string()),
             option if option.starts_with('-') && option.len() > 1 => {
@@ -140,8 +144,9 @@ fn check(arguments: &Arguments, policy: &str, request: Option<&str>) -> Result<A
     let text = || {
         let counts = format!("{} constants, {} verbs", policy.names.constants.len(), policy.names.verbs.len());
         let request = asked.map_or(String::new(), |asked| format!("\n{}: accepted, {}", asked.file, decision::question(&asked)));
-        let withdrawals = policy.withdrawals.as_ref().map_or(String::new(), |given| format!("\n{}: accepted", given.file));
-        format!("{}: accepted, {counts}{request}{withdrawals}", policy.file)
+        let beside = [&policy.withdrawals, &policy.hierarchy].into_iter().flatten();
+        let entries: String = beside.map(|given| format!("\n{}: accepted", given.file)).collect();
+        format!("{}: accepted, {counts}{request}{entries}", policy.file)
     };
     Ok(Answer::yes(arguments.line(text, || Json::object([("accepted", Json::Flag(true))]))))
 }
@@ -153,12 +158,30 @@ fn write(file: &str, bytes: &[u8]) -> Result<Answer, Problem> {
     }
 }
 
+/// What `compile` and `show` write: the one thing that is given beside the policy, or the policy.
+enum Subject<'a> {
+    Policy,
+    Request(source::Asked),
+    Withdrawals(&'a [u8]),
+    Hierarchy(&'a [u8]),
+}
+
+fn subject<'a>(policy: &'a Policy, request: Option<&str>) -> Result<Subject<'a>, Problem> {
+    match (request, &policy.withdrawals, &policy.hierarchy) {
+        (Some(request), _, _) => Ok(Subject::Request(source::request(policy, request)?)),
+        (None, Some(withdrawals), None) => Ok(Subject::Withdrawals(&withdrawals.bytes)),
+        (None, None, Some(hierarchy)) => Ok(Subject::Hierarchy(&hierarchy.bytes)),
+        (None, None, None) => Ok(Subject::Policy),
+        (None, Some(_), Some(_)) => Err(Problem::new("secpal", "one file at a time: withdrawals or a hierarchy")),
+    }
+}
+
 fn compile(arguments: &Arguments, policy: &str, request: Option<&str>) -> Result<Answer, Problem> {
     let policy = arguments.policy(policy)?;
-    let bytes = match (request, &policy.withdrawals) {
-        (Some(request), _) => source::request(&policy, request)?.bytes,
-        (None, Some(withdrawals)) => withdrawals.bytes.clone(),
-        (None, None) => policy.bytes,
+    let bytes = match subject(&policy, request)? {
+        Subject::Request(asked) => asked.bytes,
+        Subject::Withdrawals(bytes) | Subject::Hierarchy(bytes) => bytes.to_vec(),
+        Subject::Policy => policy.bytes,
     };
     match &arguments.output {
         Some(file) => write(file, &bytes),
@@ -169,10 +192,11 @@ fn compile(arguments: &Arguments, policy: &str, request: Option<&str>) -> Result
 
 fn show(arguments: &Arguments, policy: &str, request: Option<&str>) -> Result<Answer, Problem> {
     let policy = arguments.policy(policy)?;
-    let text = match (request, &policy.withdrawals) {
-        (Some(request), _) => show_request(&policy.names, &source::request(&policy, request)?.bytes),
-        (None, Some(withdrawals)) => show_withdrawals(&policy.names, &withdrawals.bytes),
-        (None, None) => show_policy(&policy.bytes),
+    let text = match subject(&policy, request)? {
+        Subject::Request(asked) => show_request(&policy.names, &asked.bytes),
+        Subject::Withdrawals(bytes) => show_withdrawals(&policy.names, bytes),
+        Subject::Hierarchy(bytes) => show_hierarchy(&policy.names, bytes),
+        Subject::Policy => show_policy(&policy.bytes),
     };
     text.map(Answer::yes).ok_or_else(|| Problem::new(&policy.file, "cannot be shown"))
 }
@@ -222,6 +246,7 @@ fn limits_listed(arguments: &Arguments) -> Answer {
         ("conditions", "conditions of a statement", limits::BODY),
         ("constraints", "constraints of a statement or a withdrawal", limits::CONSTRAINTS),
         ("withdrawals", "withdrawals", limits::WITHDRAWALS),
+        ("hierarchy", "members of families", limits::HIERARCHY),
         ("variables", "variables of a statement or a request", limits::VARIABLES),
         ("parts", "parts of an all(..) or any(..)", limits::PARTS),
         ("depth", "nodes of a request inside each other", limits::DEPTH),

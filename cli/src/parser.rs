@@ -242,6 +242,28 @@ impl Parser {
         Ok(Withdrawal { issuer, serial, constraints, span: start.to(end) })
     }
 
+    /// `family may-order 1: belt-parts over encoder, gearbox.`
+    pub fn family(&mut self) -> Parsed<Family<Text>> {
+        let start = self.word("family")?;
+        let verb = self.verb_name()?;
+        let position = self.position()?;
+        self.symbol(":")?;
+        let parent = self.expression("a name")?;
+        self.word("over")?;
+        let children = self.list(|p| p.expression("a name"))?;
+        let end = self.full_stop("a full stop or a comma")?;
+        Ok(Family { verb, position, parent, children, span: start.to(end) })
+    }
+
+    /// Which parameter of a verb, from 1.
+    fn position(&mut self) -> Parsed<At<u8>> {
+        let span = self.peek().span;
+        match u8::try_from(self.number("the number of a parameter")?) {
+            Ok(position) => Ok(At { it: position, span }),
+            Err(_) => fault(span, format!("a verb has at most {} parameters", secpal::limits::ARITY)),
+        }
+    }
+
     /// What begins with a name but goes on without "says" may be a declaration whose word is misspelt.
     fn no_statement<T>(&self, first: &Name) -> Parsed<T> {
         let declared = match first {

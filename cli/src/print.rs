@@ -41,6 +41,13 @@ pub fn expression(name: &Name) -> String {
     }
 }
 
+pub fn verb_name(verb: &VerbName) -> String {
+    match verb {
+        VerbName::CanActAs => "can act as".to_string(),
+        VerbName::Label(text) => label(text),
+    }
+}
+
 pub fn fact(fact: &Fact<Text>) -> String {
     let mut words = vec![];
     for speaker in &fact.speakers {
@@ -48,10 +55,7 @@ pub fn fact(fact: &Fact<Text>) -> String {
         words.push(format!("{} can say {depth}", expression(&speaker.who.it)));
     }
     words.push(expression(&fact.subject.it));
-    words.push(match &fact.verb.it {
-        VerbName::CanActAs => "can act as".to_string(),
-        VerbName::Label(text) => label(text),
-    });
+    words.push(verb_name(&fact.verb.it));
     words.extend(fact.parameters.iter().map(|p| expression(&p.it)));
     words.join(" ")
 }
@@ -65,13 +69,19 @@ pub fn version(version: u8) -> String {
     format!("version {version}")
 }
 
-/// `principal Works, North`, broken between names.
+/// `principal Works, North`
 pub fn declaration(kind: Kind, constants: &[At<Constant>]) -> String {
-    let mut line = kind.word().to_string();
+    let names: Vec<String> = constants.iter().map(|at| constant(&at.it)).collect();
+    listed(kind.word().to_string(), &names)
+}
+
+/// Names after a head, with commas, broken between names.
+fn listed(head: String, names: &[String]) -> String {
+    let mut line = head;
     let mut lines = vec![];
-    for (i, at) in constants.iter().enumerate() {
-        let comma = if i + 1 < constants.len() { "," } else { "" };
-        let name = constant(&at.it) + comma;
+    for (i, name) in names.iter().enumerate() {
+        let comma = if i + 1 < names.len() { "," } else { "" };
+        let name = format!("{name}{comma}");
         if i > 0 && line.len() + 1 + name.len() > WIDTH {
             lines.push(line);
             line = format!("{INDENT}{name}");
@@ -111,6 +121,21 @@ pub fn assertion(assertion: &Assertion<Text>) -> String {
 pub fn withdrawal(withdrawal: &Withdrawal<Text>) -> String {
     let head = format!("withdraw {} #{}", expression(&withdrawal.issuer.it), withdrawal.serial);
     sentence(&head, &[], &withdrawal.constraints)
+}
+
+/// `family may-order 1: belt-parts over encoder, gearbox.`
+pub fn family(family: &Family<Text>) -> String {
+    let head = format!("family {} {}: {} over", verb_name(&family.verb.it), family.position.it, expression(&family.parent.it));
+    let children: Vec<String> = family.children.iter().map(|child| expression(&child.it)).collect();
+    listed(head, &children) + "."
+}
+
+/// `may-order has 1 parameter (thing)`
+pub fn parameters(verb: &VerbName, kinds: &[Kind]) -> String {
+    let words: Vec<&str> = kinds.iter().map(|kind| kind.word()).collect();
+    let listed = if words.is_empty() { String::new() } else { format!(" ({})", words.join(" ")) };
+    let plural = if kinds.len() == 1 { "" } else { "s" };
+    format!("{} has {} parameter{plural}{listed}", verb_name(verb), kinds.len())
 }
 
 /// A head with its conditions and constraints, on one line if it is short enough.

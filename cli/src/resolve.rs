@@ -33,7 +33,7 @@ impl Convert<Text, Numbers> for Gather {
         Ok(0)
     }
 
-    fn verb(&mut self, _: &At<VerbName>, _: &[At<Name>]) -> Result<u8, Fault> {
+    fn verb(&mut self, _: &At<VerbName>) -> Result<u8, Fault> {
         Ok(0)
     }
 
@@ -43,10 +43,10 @@ impl Convert<Text, Numbers> for Gather {
     }
 }
 
-/// Within one assertion, request or entry.
+/// Within one assertion, request, withdrawal or family.
 struct Resolver<'a> {
     names: &'a mut Names,
-    /// in a policy days and quantities need no declaration; a request and withdrawals have those of their policy alone
+    /// in a policy days and quantities need no declaration; the other slices have those of their policy alone
     grows: bool,
     used: [bool; limits::VARIABLES],
     variables: VariableNames,
@@ -127,27 +127,24 @@ impl Convert<Text, Numbers> for Resolver<'_> {
         }
     }
 
-    fn verb(&mut self, verb: &At<VerbName>, parameters: &[At<Name>]) -> Result<u8, Fault> {
-        let (number, name) = match &verb.it {
-            VerbName::CanActAs => (0, "can act as".to_string()),
-            VerbName::Label(label) => {
-                let name = print::label(label);
-                let Some(number) = self.names.verb(label) else {
-                    let all: Vec<&str> = self.names.verbs.iter().map(|v| v.label.as_str()).collect();
-                    return fault(verb.span, self.missing("verb", &name) + &nearest(label, &all));
-                };
-                (number, name)
+    fn verb(&mut self, verb: &At<VerbName>) -> Result<u8, Fault> {
+        let VerbName::Label(label) = &verb.it else { return Ok(0) };
+        match self.names.verb(label) {
+            Some(number) => Ok(number),
+            None => {
+                let all: Vec<&str> = self.names.verbs.iter().map(|v| v.label.as_str()).collect();
+                fault(verb.span, self.missing("verb", &print::label(label)) + &nearest(label, &all))
             }
-        };
-        let kinds = self.names.kinds(number).unwrap_or_default();
-        if kinds.len() != parameters.len() {
-            let words: Vec<&str> = kinds.iter().map(|kind| kind.word()).collect();
-            let listed = if words.is_empty() { String::new() } else { format!(" ({})", words.join(" ")) };
-            let plural = if kinds.len() == 1 { "" } else { "s" };
-            let message = format!("{name} has {} parameter{plural}{listed}, and here stand {}", kinds.len(), parameters.len());
-            return fault(verb.span, message);
         }
-        Ok(number)
+    }
+
+    fn verb_with(&mut self, verb: &At<VerbName>, parameters: &[At<Name>]) -> Result<u8, Fault> {
+        let number = self.verb(verb)?;
+        let kinds = self.names.kinds(number).unwrap_or_default();
+        match kinds.len() == parameters.len() {
+            true => Ok(number),
+            false => fault(verb.span, format!("{}, and here stand {}", print::parameters(&verb.it, kinds), parameters.len())),
+        }
     }
 
     fn variable(&mut self, variable: &At<Variable>) -> Result<u8, Fault> {
@@ -207,6 +204,20 @@ pub fn withdrawals(names: &Names, text: &Withdrawals<Text>) -> Result<Withdrawal
         entries.push(Resolver::new(&mut names, false, gather).withdrawal(entry)?);
     }
     Ok(Withdrawals { version: text.version.clone(), entries })
+}
+
+/// A hierarchy in numbers, with the constants of its policy alone.
+pub fn hierarchy(names: &Names, text: &Hierarchy<Text>) -> Result<Hierarchy<Numbers>, Fault> {
+    let children: Vec<&At<Name>> = text.families.iter().flat_map(|family| &family.children).collect();
+    at_most(&children, limits::HIERARCHY, ("a file", "members of families"), |child| child.span)?;
+    let mut names = names.clone();
+    let mut families = vec![];
+    for family in &text.families {
+        let mut gather = Gather::default();
+        gather.family(family)?;
+        families.push(Resolver::new(&mut names, false, gather).family(family)?);
+    }
+    Ok(Hierarchy { version: text.version.clone(), families })
 }
 
 /// The number of a constant that stands in a file of expectations.

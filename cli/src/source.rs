@@ -1,4 +1,5 @@
-//! Policies, requests and withdrawals as the tool is given them: files of either form, or a request as an argument. All are put to the engine.
+//! Policies, requests, withdrawals and hierarchies as the tool is given them: files of either form, or a request as an argument. All are put to the
+//! engine.
 use language::encode::Compiled;
 use language::json::Json;
 use language::lexer::{line_and_column, Fault};
@@ -47,7 +48,7 @@ impl Problem {
             entries.extend([("line", Json::number(line as u64)), ("column", Json::number(column as u64))]);
         }
         if let Some(refusal) = self.refusal {
-            let side = ["none", "policy", "request", "withdrawals"].get(refusal.side as usize).copied().unwrap_or("none");
+            let side = ["none", "policy", "request", "withdrawals", "hierarchy"].get(refusal.side as usize).copied().unwrap_or("none");
             entries.extend([("refusal", Json::number(refusal.number)), ("side", Json::text(side)), ("place", Json::number(refusal.place))]);
         }
         Json::object(entries)
@@ -71,12 +72,13 @@ pub fn read(path: &str) -> Result<Content, Problem> {
     }
 }
 
-/// A policy, and what is withdrawn from it.
+/// A policy, with what is withdrawn from it and its hierarchy.
 pub struct Policy {
     pub file: String,
     pub bytes: Vec<u8>,
     pub names: Names,
     pub withdrawals: Option<Entries>,
+    pub hierarchy: Option<Entries>,
 }
 
 /// A slice of entries that the engine accepts under its policy.
@@ -89,7 +91,7 @@ impl Policy {
     /// What the engine is lent for a request.
     pub fn slices<'a>(&'a self, request: &'a [u8]) -> Slices<'a> {
         let lent = |entries: &'a Option<Entries>| entries.as_ref().map_or(secpal::NONE, |given| &given.bytes);
-        Slices { policy: &self.bytes, request, withdrawals: lent(&self.withdrawals) }
+        Slices { policy: &self.bytes, request, withdrawals: lent(&self.withdrawals), hierarchy: lent(&self.hierarchy) }
     }
 }
 
@@ -100,10 +102,11 @@ fn refused_text(file: &str, text: &str, compiled: &Compiled, refusal: Refusal, w
     Problem { refusal: Some(refusal), ..Problem::fault(file, text, Fault { span, message }) }
 }
 
-/// A policy that the engine accepts, with the file of entries that is given beside it.
-pub fn policy(path: &str, withdrawn: Option<&str>) -> Result<Policy, Problem> {
+/// A policy that the engine accepts, with the files of entries that are given beside it.
+pub fn policy(path: &str, withdrawn: Option<&str>, families: Option<&str>) -> Result<Policy, Problem> {
     let mut policy = policy_alone(path)?;
     policy.withdrawals = withdrawn.map(|path| withdrawals(&policy, path)).transpose()?;
+    policy.hierarchy = families.map(|path| hierarchy(&policy, path)).transpose()?;
     Ok(policy)
 }
 
@@ -115,7 +118,7 @@ fn policy_alone(path: &str) -> Result<Policy, Problem> {
     let words = |(numbers, names): &_, number, span| explain::policy(numbers, names, number, span);
     let bytes = accepted(path, compile, words, secpal::policy_refusal)?;
     match language::names(&bytes) {
-        Some(names) => Ok(Policy { file: path.to_string(), bytes, names, withdrawals: None }),
+        Some(names) => Ok(Policy { file: path.to_string(), bytes, names, withdrawals: None, hierarchy: None }),
         None => Err(Problem::new(path, "the policy is accepted, but its names cannot be read")),
     }
 }
@@ -151,6 +154,17 @@ fn withdrawals(policy: &Policy, path: &str) -> Result<Entries, Problem> {
     };
     let words = |numbers: &_, number, span| explain::withdrawals(numbers, names, number, span);
     let bytes = accepted(path, compile, words, |bytes| secpal::withdrawals_refusal(&policy.bytes, bytes))?;
+    Ok(Entries { file: path.to_string(), bytes })
+}
+
+fn hierarchy(policy: &Policy, path: &str) -> Result<Entries, Problem> {
+    let names = &policy.names;
+    let compile = |text: &str| {
+        let numbers = resolve::hierarchy(names, &document::hierarchy(text)?.to_hierarchy())?;
+        Ok((encode::hierarchy(&numbers), numbers))
+    };
+    let words = |numbers: &_, number, span| explain::hierarchy(numbers, names, number, span);
+    let bytes = accepted(path, compile, words, |bytes| secpal::hierarchy_refusal(&policy.bytes, bytes))?;
     Ok(Entries { file: path.to_string(), bytes })
 }
 

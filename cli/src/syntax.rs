@@ -1,4 +1,4 @@
-//! Policies, requests and withdrawals as trees. One shape serves both forms: in `Text` names stand as they are written, in `Numbers` as the bytes have them.
+//! Policies, requests, withdrawals and hierarchies as trees. One shape serves both forms: in `Text` names stand as they are written, in `Numbers` as the bytes have them.
 use std::fmt::Debug;
 
 /// A part of a text, by offsets; in a tree that was read from bytes it is empty.
@@ -143,6 +143,16 @@ pub struct Withdrawal<F: Form> {
     pub span: Span,
 }
 
+/// What is below a constant as a parameter of a verb, counted from 1: an entry for each child.
+#[derive(Debug, Clone)]
+pub struct Family<F: Form> {
+    pub verb: At<F::Verb>,
+    pub position: At<u8>,
+    pub parent: At<F::Expression>,
+    pub children: Vec<At<F::Expression>>,
+    pub span: Span,
+}
+
 #[derive(Debug, Clone)]
 pub enum Part<F: Form> {
     Says(At<F::Expression>, Fact<F>),
@@ -209,4 +219,10 @@ pub struct Request<F: Form> {
 pub struct Withdrawals<F: Form> {
     pub version: At<u8>,
     pub entries: Vec<Withdrawal<F>>,
+}
+
+#[derive(Debug, Clone)]
+pub struct Hierarchy<F: Form> {
+    pub version: At<u8>,
+    pub families: Vec<Family<F>>,
 }

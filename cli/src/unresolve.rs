@@ -1,4 +1,4 @@
-//! Numbers to names, for policies, requests and withdrawals that were read from bytes.
+//! Numbers to names, for what was read from bytes.
 use crate::convert::Convert;
 use crate::names::Names;
 use crate::resolve::VariableNames;
@@ -45,7 +45,7 @@ impl Convert<Numbers, Text> for Unresolver<'_> {
         }
     }
 
-    fn verb(&mut self, verb: &At<u8>, _: &[At<u16>]) -> Result<VerbName, Nothing> {
+    fn verb(&mut self, verb: &At<u8>) -> Result<VerbName, Nothing> {
         match verb.it {
             0 => Ok(VerbName::CanActAs),
             number => Ok(VerbName::Label(self.names.verbs.get(number as usize - 1).ok_or(Nothing)?.label.clone())),
@@ -71,6 +71,12 @@ pub fn withdrawals(withdrawals: &Withdrawals<Numbers>, names: &Names) -> Result<
     let mut unresolver = Unresolver { names, variables: &vec![] };
     let entries = withdrawals.entries.iter().map(|entry| unresolver.withdrawal(entry)).collect::<Result<_, _>>()?;
     Ok(Withdrawals { version: withdrawals.version.clone(), entries })
+}
+
+pub fn hierarchy(hierarchy: &Hierarchy<Numbers>, names: &Names) -> Result<Hierarchy<Text>, Nothing> {
+    let mut unresolver = Unresolver { names, variables: &vec![] };
+    let families = hierarchy.families.iter().map(|family| unresolver.family(family)).collect::<Result<_, _>>()?;
+    Ok(Hierarchy { version: hierarchy.version.clone(), families })
 }
 
 pub fn request(request: &Request<Numbers>, names: &Names, variables: &VariableNames) -> Result<Request<Text>, Nothing> {

@@ -6,7 +6,7 @@ use language::lexer::{line_and_column, Fault};
 use language::*;
 use secpal::{Refusal, Slices};
 
-const SIGNS: [&str; 25] = [
+const SIGNS: [&str; 26] = [
     " ",
     "\n",
     ".",
@@ -32,6 +32,7 @@ const SIGNS: [&str; 25] = [
     "?x",
     "version 2\n",
     "withdraw",
+    "family",
 ];
 
 fn damaged(text: &str, random: &mut Random) -> String {
@@ -114,9 +115,19 @@ fn withdrawals_law(policy: &[u8], text: &str) {
     );
 }
 
+fn hierarchy_law(policy: &[u8], text: &str) {
+    let names = names(policy).expect("an accepted policy");
+    slice_law(
+        text,
+        compile_hierarchy(&names, text),
+        |bytes| secpal::hierarchy_refusal(policy, bytes),
+        |bytes| Some(compile_hierarchy(&names, &show_hierarchy(&names, bytes)?).ok()?.bytes),
+    );
+}
+
 #[test]
 fn every_text_gets_an_answer() {
-    let (mut policies, mut requests, mut withdrawals) = (0, 0, 0);
+    let (mut policies, mut requests, mut withdrawals, mut hierarchies) = (0, 0, 0, 0);
     for seed in 0..6000 {
         let case = generate::case(seed, |_| (0, 0));
         let Some(text) = show_policy(&case.policy) else { continue };
@@ -134,6 +145,11 @@ fn every_text_gets_an_answer() {
             let text = show_withdrawals(&names, &case.withdrawals).expect("accepted withdrawals");
             withdrawals_law(&case.policy, &damaged(&text, &mut random));
         }
+        if secpal::hierarchy_refusal(&case.policy, &case.hierarchy).is_none() {
+            hierarchies += 1;
+            let text = show_hierarchy(&names, &case.hierarchy).expect("an accepted hierarchy");
+            hierarchy_law(&case.policy, &damaged(&text, &mut random));
+        }
     }
-    assert!(policies > 2000 && requests > 1000 && withdrawals > 1000);
+    assert!(policies > 2000 && requests > 1000 && withdrawals > 1000 && hierarchies > 1000);
 }

@@ -125,13 +125,16 @@ fn requests() {
     assert!(check("r5", &deeper).ends_with("too deep: parts stand at most 8 deep"));
 }
 
+/// What is said of a file of entries beside a policy.
+fn entries_complaint(policy: &str, option: &str, name: &str, text: &str) -> String {
+    let file = scratch(name, text);
+    complaint_of(&[policy, option, &file], &file)
+}
+
 #[test]
 fn withdrawals() {
     let policy = scratch("withdrawn.secpal", &format!("{NAMES}Works says North permit-from 2026-03-01.\n"));
-    let check = |name: &str, text: &str| {
-        let file = scratch(name, text);
-        complaint_of(&[&policy, "--withdrawals", &file], &file)
-    };
+    let check = |name: &str, text: &str| entries_complaint(&policy, "--withdrawals", name, text);
     let cases = [
         ("withdraw Noth #1.", "1:10: the policy has no principal or thing Noth; the nearest is North"),
         ("withdraw North #1\n  where today <= 2027-01-01.", "2:18: the policy has no day 2027-01-01"),
@@ -158,4 +161,32 @@ fn withdrawals() {
     }
     let many = check("many_withdrawals", &"withdraw North #1.\n".repeat(257));
     assert_eq!(many, "257:1: this is one too many: a file has at most 256 withdrawals");
+}
+
+#[test]
+fn families() {
+    let policy = scratch("families.secpal", &format!("{NAMES}Works says North permit-from 2026-03-01.\n"));
+    let check = |name: &str, text: &str| entries_complaint(&policy, "--hierarchy", name, text);
+    let cases = [
+        ("family may-oder 1: encoder over thing arm.", "1:8: the policy has no verb may-oder; the nearest is may-order"),
+        ("family may-order 1: encoder over gearbox.", "1:34: the policy has no principal or thing gearbox"),
+        ("family may-order 1 encoder over thing arm.", "1:20: \":\" is wanted here, not \"encoder\""),
+        ("family may-order 1: encoder thing arm.", "1:29: \"over\" is wanted here, not \"thing\""),
+        ("family may-order 1: encoder over thing arm", "1:43: a full stop or a comma is wanted here, not the end"),
+        ("withdraw North #1.", "1:1: \"family\" is wanted here, not \"withdraw\""),
+        ("family may-order 2: encoder over thing arm.", "1:18: refused (5): may-order has 1 parameter (thing)"),
+        ("family may-order 0: encoder over thing arm.", "1:18: refused (5): may-order has 1 parameter (thing)"),
+        ("family can act as 1: Works over North.", "1:8: refused (5): \"can act as\" has no families"),
+        ("family may-order 1: thing arm over encoder, Works.", "1:45: refused (5): a thing is wanted here, and this is a principal"),
+        ("family may-order 1: North over encoder.", "1:21: refused (5): a thing is wanted here, and this is a principal"),
+        ("family may-order 1: ?x over encoder.", "1:21: refused (5): a family has constants alone"),
+        ("family permit-from 1: today over 2026-03-01.", "1:23: refused (5): a family has constants alone"),
+        ("family may-order 1: encoder over thing arm, encoder.", "1:45: refused (11): a family has itself as a member"),
+        ("family may-order 256: encoder over thing arm.", "1:18: a verb has at most 3 parameters"),
+    ];
+    for (i, (text, wanted)) in cases.iter().enumerate() {
+        assert_eq!(check(&format!("families_{i}"), text), *wanted, "{text}");
+    }
+    let many = check("many_families", &"family may-order 1: encoder over thing arm.\n".repeat(1025));
+    assert_eq!(many, "1025:34: this is one too many: a file has at most 1024 members of families");
 }

@@ -1,5 +1,5 @@
-//! The law of the language: compiling what `show` writes gives the same bytes for every accepted policy, request and slice of withdrawals, and
-//! showing what was compiled gives the text in its layout. On the files of cases, and on generated ones: ROUND_TRIPS of them, 20,000 if it is not set.
+//! The law of the language: compiling what `show` writes gives the same bytes for every accepted policy, request, slice of withdrawals and hierarchy,
+//! and showing what was compiled gives the text in its layout. On the files of cases, and on generated ones: ROUND_TRIPS of them, 20,000 if it is not set.
 mod loosen;
 
 use evaluator::{generate, generate::Random, vectors, Call};
@@ -12,6 +12,7 @@ struct Count {
     policies: usize,
     requests: usize,
     withdrawals: usize,
+    hierarchies: usize,
 }
 
 /// A text that `show` wrote, with what compiles a text of its sort.
@@ -30,7 +31,7 @@ fn text_law(text: &str, bytes: &[u8], random: &mut Random, compile: impl Fn(&str
 
 /// Tries the law on a call's slices, as far as the engine accepts them.
 fn law(call: &Call, random: &mut Random, count: &mut Count) {
-    let Call { policy, request, withdrawals, .. } = call;
+    let Call { policy, request, withdrawals, hierarchy, .. } = call;
     if secpal::policy_refusal(policy).is_some() {
         assert_eq!(show_policy(policy), None, "only accepted bytes are shown");
         return;
@@ -48,6 +49,11 @@ fn law(call: &Call, random: &mut Random, count: &mut Count) {
         count.withdrawals += 1;
         let text = show_withdrawals(&names, withdrawals).expect("accepted withdrawals");
         text_law(&text, withdrawals, random, |t| compile_withdrawals(&names, t).expect("a text of withdrawals").bytes);
+    }
+    if secpal::hierarchy_refusal(policy, hierarchy).is_none() {
+        count.hierarchies += 1;
+        let text = show_hierarchy(&names, hierarchy).expect("an accepted hierarchy");
+        text_law(&text, hierarchy, random, |t| compile_hierarchy(&names, t).expect("a text of families").bytes);
     }
 }
 

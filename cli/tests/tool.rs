@@ -123,6 +123,36 @@ fn withdrawals_on_a_day() {
 }
 
 #[test]
+fn a_right_to_a_family_covers_its_members() {
+    let (policy, families) = ("parts/parts.secpal", "parts/families.secpal");
+    let asked = "on 2026-11-17 ask Works says Otto may-order ?part";
+    let ran = secpal(&["decide", policy, asked, "--hierarchy", families]);
+    let all = "  ?part = belt-parts\n  ?part = encoder\n  ?part = gearbox\n  ?part = bearing\n";
+    assert_eq!((ran.status, ran.printed), (0, format!("allow: Works says Otto may-order ?part\n{all}")));
+    let bearing = "on 2026-11-17 ask Works says Otto may-order bearing";
+    assert_eq!(secpal(&["decide", policy, bearing]).status, 1);
+    let fewer = scratch("fewer.secpal", b"family may-order 1: belt-parts over encoder.\n");
+    let ran = secpal(&["decide", policy, bearing, "--hierarchy", &fewer, "--withdrawals", "parts/none.bin"]);
+    assert_eq!(ran.status, 2, "there is no such file");
+    let ran = secpal(&["decide", policy, bearing, "--hierarchy", &fewer]);
+    let wanted = format!("  does not follow from the statements of parts/parts.secpal and the families of {fewer} on 2026-11-17\n");
+    assert!(ran.status == 1 && ran.printed.ends_with(&wanted), "{}", ran.printed);
+}
+
+#[test]
+fn families_in_bytes() {
+    let bytes = scratch("hierarchy.bin", b"");
+    assert_eq!(secpal(&["compile", "parts/parts.secpal", "--hierarchy", "parts/families.secpal", "-o", &bytes]).status, 0);
+    let example = concat!(env!("CARGO_MANIFEST_DIR"), "/../examples/parts/hierarchy.bin");
+    assert_eq!(std::fs::read(&bytes).expect("the file"), std::fs::read(example).expect("the example"));
+    let shown = "family may-order 1: belt-parts over encoder, gearbox.\nfamily may-order 1: gearbox over bearing.\n";
+    assert_eq!(secpal(&["show", "parts/policy.bin", "--hierarchy", "parts/hierarchy.bin"]).printed, shown);
+    assert_eq!(secpal(&["decide", "parts/policy.bin", "parts/request.bin", "--hierarchy", "parts/hierarchy.bin"]).status, 0);
+    let both = ["show", "parts/policy.bin", "--hierarchy", "parts/hierarchy.bin", "--withdrawals", "belt/withdrawals.bin"];
+    assert_eq!(secpal(&both).complained, "secpal: one file at a time: withdrawals or a hierarchy\n");
+}
+
+#[test]
 fn answers_for_programs() {
     let ran = secpal(&["decide", "belt/policy.bin", "belt/who.bin", "--json"]);
     let wanted =
@@ -153,7 +183,14 @@ fn expectations() {
 
 #[test]
 fn the_examples_are_in_their_layout() {
-    for file in ["belt/belt.secpal", "permits/permits.secpal", "permits/permits.expect", "belt/withdrawals.secpal"] {
+    for file in [
+        "belt/belt.secpal",
+        "permits/permits.secpal",
+        "permits/permits.expect",
+        "belt/withdrawals.secpal",
+        "parts/parts.secpal",
+        "parts/families.secpal",
+    ] {
         assert_eq!(secpal(&["fmt", "--check", file]).status, 0, "{file}");
     }
     assert_eq!(secpal(&["show", "belt/policy.bin"]).printed, secpal(&["show", "belt/belt.secpal"]).printed);

@@ -41,12 +41,13 @@ pub struct Slices<'a> {
     pub policy: &'a [u8],
     pub request: &'a [u8],
     pub withdrawals: &'a [u8],
+    pub hierarchy: &'a [u8],
 }
 
 impl<'a> Slices<'a> {
-    /// A policy and a request, and nothing withdrawn.
+    /// A policy and a request, with nothing withdrawn and no hierarchy.
     pub fn new(policy: &'a [u8], request: &'a [u8]) -> Slices<'a> {
-        Slices { policy, request, withdrawals: NONE }
+        Slices { policy, request, withdrawals: NONE, hierarchy: NONE }
     }
 }
 
@@ -61,6 +62,8 @@ pub fn decide(slices: &Slices, facts: &mut [u8], answers: &mut [u8]) -> Report {
             slices.request.len(),
             slices.withdrawals.as_ptr(),
             slices.withdrawals.len(),
+            slices.hierarchy.as_ptr(),
+            slices.hierarchy.len(),
             facts.as_mut_ptr(),
             facts.len(),
             answers.as_mut_ptr(),
@@ -89,6 +92,8 @@ pub fn reach_into(slices: &Slices, marks: &mut [u8]) -> Result<(), Refusal> {
             slices.request.len(),
             slices.withdrawals.as_ptr(),
             slices.withdrawals.len(),
+            slices.hierarchy.as_ptr(),
+            slices.hierarchy.len(),
             marks.as_mut_ptr(),
             marks.len(),
         )
@@ -122,6 +127,11 @@ const ANY_REQUEST: &[u8] = &[1, 0, 0, 0, 10, 0, 0, 0, 0, 2, 1, 0x40, 0, 0x40, 0]
 /// The refusal of withdrawals under a policy that is accepted, if they are not: they are read after the request.
 pub fn withdrawals_refusal(policy: &[u8], withdrawals: &[u8]) -> Option<Refusal> {
     input_refusal(&Slices { withdrawals, ..Slices::new(policy, ANY_REQUEST) })
+}
+
+/// The same for a hierarchy.
+pub fn hierarchy_refusal(policy: &[u8], hierarchy: &[u8]) -> Option<Refusal> {
+    input_refusal(&Slices { hierarchy, ..Slices::new(policy, ANY_REQUEST) })
 }
 
 /// The label of a principal or thing: that part of the policy. For all else it is empty.

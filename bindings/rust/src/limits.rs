@@ -10,6 +10,7 @@ pub const NEST: usize = 3;
 pub const BODY: usize = 4;
 pub const CONSTRAINTS: usize = 4;
 pub const WITHDRAWALS: usize = 256;
+pub const HIERARCHY: usize = 1024;
 pub const VARIABLES: usize = 8;
 pub const PARTS: usize = 8;
 pub const DEPTH: usize = 8;
@@ -33,11 +34,13 @@ pub const UNSAFE_REQUEST: u32 = 7;
 pub const TOO_MANY_FACTS: u32 = 8;
 pub const TOO_MANY_ANSWERS: u32 = 9;
 pub const OPEN_WITHDRAWAL: u32 = 10;
+pub const OWN_CHILD: u32 = 11;
 
 pub const SIDE_NONE: u32 = 0;
 pub const SIDE_POLICY: u32 = 1;
 pub const SIDE_REQUEST: u32 = 2;
 pub const SIDE_WITHDRAWALS: u32 = 3;
+pub const SIDE_HIERARCHY: u32 = 4;
 
 pub const PRINCIPAL: u8 = 1;
 pub const THING: u8 = 2;

@@ -19,8 +19,8 @@ pub struct Slice {
 
 #[rustfmt::skip]
 extern "C" {
-    pub fn secpal_decide(policy: *const u8, policy_len: usize, request: *const u8, request_len: usize, withdrawals: *const u8, withdrawals_len: usize, facts: *mut u8, facts_len: usize, answers: *mut u8, answers_len: usize) -> Report;
-    pub fn secpal_reach(policy: *const u8, policy_len: usize, request: *const u8, request_len: usize, withdrawals: *const u8, withdrawals_len: usize, marks: *mut u8, marks_len: usize) -> Report;
+    pub fn secpal_decide(policy: *const u8, policy_len: usize, request: *const u8, request_len: usize, withdrawals: *const u8, withdrawals_len: usize, hierarchy: *const u8, hierarchy_len: usize, facts: *mut u8, facts_len: usize, answers: *mut u8, answers_len: usize) -> Report;
+    pub fn secpal_reach(policy: *const u8, policy_len: usize, request: *const u8, request_len: usize, withdrawals: *const u8, withdrawals_len: usize, hierarchy: *const u8, hierarchy_len: usize, marks: *mut u8, marks_len: usize) -> Report;
     pub fn secpal_label(policy: *const u8, policy_len: usize, constant: u32, label: *mut Slice);
     pub fn secpal_constants(policy: *const u8, policy_len: usize, offsets: *mut u32, offsets_len: usize) -> u32;
     pub fn secpal_verbs(policy: *const u8, policy_len: usize, offsets: *mut u32, offsets_len: usize) -> u32;

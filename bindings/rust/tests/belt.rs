@@ -1,8 +1,12 @@
-//! The wrapper on the belt policy, whose bytes docs/FORMAT.md lays out.
+//! The wrapper on the examples; docs/FORMAT.md lays out the bytes of the belt policy.
 use secpal::{limits, Refusal, Slices, Verdict};
 
 fn example(name: &str) -> Vec<u8> {
-    let path = format!("{}/../../examples/belt/{name}.bin", env!("CARGO_MANIFEST_DIR"));
+    example_in("belt", name)
+}
+
+fn example_in(folder: &str, name: &str) -> Vec<u8> {
+    let path = format!("{}/../../examples/{folder}/{name}.bin", env!("CARGO_MANIFEST_DIR"));
     std::fs::read(&path).unwrap_or_else(|error| panic!("{path}: {error}"))
 }
 
@@ -52,6 +56,17 @@ fn withdrawals() {
     let no_withdrawals = Refusal { number: limits::BAD_VERSION, side: limits::SIDE_WITHDRAWALS, place: 0 };
     assert_eq!(secpal::input_refusal(&Slices { withdrawals: &[], ..slices }), Some(no_withdrawals));
     assert_eq!(secpal::input_refusal(&Slices { withdrawals: secpal::NONE, ..slices }), None);
+}
+
+#[test]
+fn hierarchy() {
+    let [policy, request, hierarchy] = ["policy", "request", "hierarchy"].map(|name| example_in("parts", name));
+    let slices = Slices { hierarchy: &hierarchy, ..Slices::new(&policy, &request) };
+    let (mut facts, mut answers) = (vec![0xAA; 1024], vec![0xAA; 64]);
+    assert_eq!(secpal::decide(&slices, &mut facts, &mut answers).verdict, Verdict::Allow);
+    assert_eq!(secpal::decide(&Slices { hierarchy: secpal::NONE, ..slices }, &mut facts, &mut answers).verdict, Verdict::Deny);
+    let no_hierarchy = Refusal { number: limits::BAD_VERSION, side: limits::SIDE_HIERARCHY, place: 0 };
+    assert_eq!(secpal::input_refusal(&Slices { hierarchy: &[], ..slices }), Some(no_hierarchy));
 }
 
 #[test]

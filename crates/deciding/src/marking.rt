@@ -1,9 +1,8 @@
 // Whose words count for a request, as marks in a lent slice.
+use inputs::Handed;
 use outcome::Report;
 use outcome::numbers;
 use policy::Index;
-use request::Request;
-use withdrawals::Withdrawals;
 ghost use mathlib.Core.Path.{_≡_};
 ghost use mathlib.Core.List.{List};
 ghost use lib.ListN.{length};
@@ -15,7 +14,7 @@ ghost use Rattle.model.specs.Decision.{slices};
 ghost use Rattle.demands.specs.Lookups.{marksFrom, reachOf, whoseWords};
 ghost use Rattle.policy.specs.Index.{handedOut};
 ghost use Rattle.policy.specs.declared.Answer.the-variants as accepting;
-ghost use Rattle.deciding.specs.Accepts.{Takes, Withdraws};
+ghost use Rattle.inputs.specs.Accepts.{Takes, Withdraws};
 ghost use Rattle.outcome.specs.Numbers.{refusalOf};
 
 // The marks of the reach, and 0 past them, in each place that is lent.
@@ -34,45 +33,20 @@ fn mark_reach(
     policy: &[u8],
     x: Index,
     request: &[u8],
-    r: Request,
+    h: Handed,
     withdrawals: &[u8],
-    w: Withdrawals,
     marks: &mut [u8],
 )
-    requires { ⌜ ((A : Accepted) × (q : syntax.Request) × (ws : List syntax.Withdrawal) × Takes (now policy) (now request) x r A q
-        × Withdraws (now withdrawals) w A ws) ⌝ }
-    ensures { λ _. ⌜ ((A : Accepted) (q : syntax.Request) (ws : List syntax.Withdrawal) → Takes (now (policy .entry)) (now (request .entry)) x r A q
-        → Withdraws (now (withdrawals .entry)) w A ws
-        → now (marks .exit) ≡ marksFrom (reachOf (read (policyOf A) q ws)) (length (now (marks .entry))) 0) ⌝ }
+    requires { ⌜ ((A : Accepted) × (q : syntax.Request) × (ws : List syntax.Withdrawal) × Takes (now policy) (now request) x (h .request) A q
+        × Withdraws (now withdrawals) (h .withdrawals) A ws) ⌝ }
+    ensures { λ _. ⌜ ((A : Accepted) (q : syntax.Request) (ws : List syntax.Withdrawal) (H : List syntax.Link)
+        → Takes (now (policy .entry)) (now (request .entry)) x (h .request) A q → Withdraws (now (withdrawals .entry)) (h .withdrawals) A ws
+        → now (marks .exit) ≡ marksFrom (reachOf (read (policyOf A) q ws H)) (length (now (marks .entry))) 0) ⌝ }
 {
     let mut left = x.issuer_at;
-    let n = super::left(&mut left, policy, x, r, withdrawals, w);
+    let n = super::left(&mut left, policy, x, h, withdrawals);
     let reach = super::reached(policy, x, &left, n, request);
     mark(&reach, marks);
-}
-
-// Policy and request are accepted.
-fn asked(
-    policy: &[u8],
-    x: Index,
-    request: &[u8],
-    r: Request,
-    withdrawals: &[u8],
-    marks: &mut [u8],
-) -> Report
-    requires { ⌜ ((A : Accepted) × (q : syntax.Request) × Takes (now policy) (now request) x r A q) ⌝ }
-    ensures numbers { λ n. ⌜ n
-        ≡ refusalOf (whoseWords (slices (now (policy .entry)) (now (request .entry)) (now (withdrawals .entry))) (now (marks .entry))) ⌝ }
-    ensures marks { λ n. ⌜ now (marks .exit)
-        ≡ whoseWords (slices (now (policy .entry)) (now (request .entry)) (now (withdrawals .entry))) (now (marks .entry)) .marks ⌝ }
-{
-    let kinds = x.kinds;
-    let w = withdrawals::read(&kinds, withdrawals);
-    if w.refusal == 0 {
-        mark_reach(policy, x, request, r, withdrawals, w, marks);
-        return numbers::refused(0, 0, 0, 0, 0);
-    }
-    numbers::refused(w.refusal, 3, w.place, 0, 0)
 }
 
 // The policy is accepted.
@@ -81,19 +55,22 @@ pub fn accepted(
     x: Index,
     request: &[u8],
     withdrawals: &[u8],
+    hierarchy: &[u8],
     marks: &mut [u8],
 ) -> Report
     requires { ⌜ (x ≡ handedOut (readPolicy (now policy))) × (x .answer ≡ accepting.Accepted) ⌝ }
     ensures numbers { λ n. ⌜ n
-        ≡ refusalOf (whoseWords (slices (now (policy .entry)) (now (request .entry)) (now (withdrawals .entry))) (now (marks .entry))) ⌝ }
+        ≡ refusalOf (whoseWords (slices (now (policy .entry)) (now (request .entry)) (now (withdrawals .entry)) (now (hierarchy .entry)))
+        (now (marks .entry))) ⌝ }
     ensures marks { λ n. ⌜ now (marks .exit)
-        ≡ whoseWords (slices (now (policy .entry)) (now (request .entry)) (now (withdrawals .entry))) (now (marks .entry)) .marks ⌝ }
+        ≡ whoseWords (slices (now (policy .entry)) (now (request .entry)) (now (withdrawals .entry)) (now (hierarchy .entry))) (now (marks .entry)) .marks ⌝ }
 {
     let kinds = x.kinds;
     let signatures = x.signatures;
-    let r = request::read(&kinds, &signatures, request);
-    if r.refusal == 0 {
-        return asked(policy, x, request, r, withdrawals, marks);
+    let h = inputs::read(&kinds, &signatures, request, withdrawals, hierarchy);
+    if h.refusal == 0 {
+        mark_reach(policy, x, request, h, withdrawals, marks);
+        return numbers::refused(0, 0, 0, 0, 0);
     }
-    numbers::refused(r.refusal, 2, r.place, 0, 0)
+    numbers::refused(h.refusal, h.side, h.place, 0, 0)
 }

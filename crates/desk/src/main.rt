@@ -68,13 +68,13 @@ fn load(path: &[u8], to: &mut [u8]) -> usize
 fn answer(policy: &[u8], request: &[u8], text: &mut [u8; 96]) -> usize
     ensures { λ r. ⌜ Counts r (now (text .exit)) ⌝ }
     ensures { λ r. ⌜ take r (now (text .exit))
-        ≡ lineOf (decision (lent (now (policy .entry)) (now (request .entry)) withoutEntries (replicate 65536 0) (replicate 1024 0))) ⌝ }
+        ≡ lineOf (decision (lent (now (policy .entry)) (now (request .entry)) withoutEntries withoutEntries (replicate 65536 0) (replicate 1024 0))) ⌝ }
 {
     // "document 01's program lends such slices without entries"
-    let withdrawals = [1u8, 0, 0, 0, 2, 0, 0];
+    let none = [1u8, 0, 0, 0, 2, 0, 0];
     let mut facts = [0u8; FACTS];
     let mut answers = [0u8; ANSWERS];
-    let o = engine::decide(policy, request, &withdrawals, &mut facts, &mut answers);
+    let o = engine::decide(policy, request, &none, &none, &mut facts, &mut answers);
     outcome::line(o, text)
 }
 

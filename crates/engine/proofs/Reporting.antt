@@ -12,7 +12,8 @@ use Rattle.model.proofs.OutcomeFacts.{sorted-length, Result, over, many, fine, 
 use Rattle.model.proofs.DecisionFacts.{rounds-facts}
 use Rattle.outcome.specs.Reported.{reportOf}
 use Rattle.outcome.specs.declared.Outcome.{Outcome}
-use Rattle.outcome.specs.declared.Outcome.the-variants.{Allow, Deny, PolicyRefused, RequestRefused, WithdrawalsRefused, TooManyFacts, TooManyAnswers}
+use Rattle.outcome.specs.declared.Outcome.the-variants.{Allow, Deny, PolicyRefused, RequestRefused, WithdrawalsRefused, HierarchyRefused}
+use Rattle.outcome.specs.declared.Outcome.the-variants.{TooManyFacts, TooManyAnswers}
 use Rattle.outcome.specs.Numbers.{numbersOf}
 use Rattle.outcome.specs.declared.Report as c
 
@@ -45,6 +46,7 @@ same-facts (Deny f r) facts answers = refl
 same-facts (PolicyRefused n p) facts answers = refl
 same-facts (RequestRefused n p) facts answers = refl
 same-facts (WithdrawalsRefused n p) facts answers = refl
+same-facts (HierarchyRefused n p) facts answers = refl
 same-facts TooManyFacts facts answers = refl
 same-facts (TooManyAnswers f r) facts answers = refl
 
@@ -54,6 +56,7 @@ same-rounds (Deny f r) facts answers = refl
 same-rounds (PolicyRefused n p) facts answers = refl
 same-rounds (RequestRefused n p) facts answers = refl
 same-rounds (WithdrawalsRefused n p) facts answers = refl
+same-rounds (HierarchyRefused n p) facts answers = refl
 same-rounds TooManyFacts facts answers = refl
 same-rounds (TooManyAnswers f r) facts answers = refl
 
@@ -63,6 +66,7 @@ same-numbers (Deny f r) facts answers = refl
 same-numbers (PolicyRefused n p) facts answers = refl
 same-numbers (RequestRefused n p) facts answers = refl
 same-numbers (WithdrawalsRefused n p) facts answers = refl
+same-numbers (HierarchyRefused n p) facts answers = refl
 same-numbers TooManyFacts facts answers = refl
 same-numbers (TooManyAnswers f r) facts answers = refl
 
@@ -72,6 +76,7 @@ same-factBuffer (Deny f r) facts answers = refl
 same-factBuffer (PolicyRefused n p) facts answers = refl
 same-factBuffer (RequestRefused n p) facts answers = refl
 same-factBuffer (WithdrawalsRefused n p) facts answers = refl
+same-factBuffer (HierarchyRefused n p) facts answers = refl
 same-factBuffer TooManyFacts facts answers = refl
 same-factBuffer (TooManyAnswers f r) facts answers = refl
 
@@ -81,6 +86,7 @@ same-answerBuffer (Deny f r) facts answers = refl
 same-answerBuffer (PolicyRefused n p) facts answers = refl
 same-answerBuffer (RequestRefused n p) facts answers = refl
 same-answerBuffer (WithdrawalsRefused n p) facts answers = refl
+same-answerBuffer (HierarchyRefused n p) facts answers = refl
 same-answerBuffer TooManyFacts facts answers = refl
 same-answerBuffer (TooManyAnswers f r) facts answers = refl
 

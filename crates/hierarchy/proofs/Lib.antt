@@ -1,2 +1,4 @@
 pub mod Steps
 pub mod Meaning
+pub mod Links
+pub mod Accepted

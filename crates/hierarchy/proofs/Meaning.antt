@@ -27,7 +27,7 @@ use Rattle.slices.proofs.ListFacts.{Reads, list-is, list-got, contents-length}
 use Rattle.hierarchy.specs.declared.Hierarchy.{Hierarchy}
 use Rattle.hierarchy.specs.Reading.{refusal, handedOut, arityIs, kindsAre, fitsBy, judgedBy, entryBy, entriesBy, listBy, told}
 
-abbrev after : ℕ → ℕ
+abbrev pub after : ℕ → ℕ
 after at = at + linkBytes
 
 -- ---- the entries of an accepted slice

@@ -5,11 +5,14 @@ ghost use mathlib.Core.Path.{_≡_};
 ghost use mathlib.Core.List.{List};
 ghost use Prim.Native.Nat.{ℕ, _+_, _*_, _≤_};
 ghost use lib.ListN.{length};
+ghost use Rattle.model.specs.Limits.{maxLinks};
 ghost use Rattle.model.specs.Syntax.{Constant, Verb};
 ghost use Rattle.model.specs.Entries.{readHierarchy};
 ghost use Rattle.wire.specs.Budget.{farthest, longest};
 ghost use Rattle.phrases.specs.Tables.{Tables};
 ghost use Rattle.slices.specs.Steps.{thenStep, endedAt};
+ghost use Rattle.hierarchy.specs.Links.{entryAt};
+ghost use Rattle.hierarchy.specs.Links as links;
 ghost use Rattle.hierarchy.specs.Reading.{refusal, handedOut, told, arityIs, kindsAre, fitsBy, judgedBy, entryBy, entriesBy, listBy};
 
 // Where parts of an entry stand, from its verb on, and how many bytes it has.
@@ -194,4 +197,28 @@ pub fn read(ks: &[u8], sg: &[u8], s: &[u8]) -> Hierarchy
         return refused(2, limits::LENGTH_AT);
     }
     headed(ks, sg, s)
+}
+
+// ---- what an accepted hierarchy says
+
+// An entry's numbers.
+pub struct Numbers {
+    pub verb: u16,
+    pub position: u16,
+    pub parent: u16,
+    pub child: u16,
+}
+
+// Entry k, counted from 0.
+pub fn entry_at(s: &[u8], k: usize) -> Numbers
+    requires { ⌜ k ≤ maxLinks ⌝ }
+    ensures { λ r. ⌜ r ≡ links.told (entryAt (now (s .entry)) k) ⌝ }
+{
+    let at = FIRST + ENTRY * k;
+    Numbers {
+        verb: wire::byte_or(s, at) as u16,
+        position: wire::byte_or(s, at + POSITION) as u16,
+        parent: wire::u16_or(s, at + PARENT) as u16,
+        child: wire::u16_or(s, at + CHILD) as u16,
+    }
 }

@@ -2,9 +2,10 @@
 pub mod numbers;
 
 ghost use mathlib.Core.Path.{_≡_};
-ghost use mathlib.Core.List.{[], _++_};
-ghost use Prim.Native.Nat.{_+_, _≤_, _<_};
+ghost use mathlib.Core.List.{List, [], _++_};
+ghost use Prim.Native.Nat.{ℕ, _+_, _≤_, _<_};
 ghost use lib.ListN.{length, take, drop};
+ghost use Rattle.model.specs.Decision.{report, refusal};
 ghost use Rattle.outcome.specs.Line.{decimal, decisionLine, sideWord, refusalLine, lineOf};
 ghost use Rattle.outcome.specs.Reported.{reportOf};
 ghost use Rattle.outcome.specs.Wrote.{Wrote};
@@ -27,6 +28,23 @@ pub enum Outcome {
     TooManyFacts,
     // 9: the counts of facts and rounds
     TooManyAnswers(usize, usize),
+}
+
+// A refusal from the input, on the side of its slice.
+pub fn refused_on(side: u8, number: u8, place: usize) -> Outcome
+    requires { ⌜ (1 ≤ side) × (side ≤ 4) ⌝ }
+    ensures { λ o. ⌜ ((facts answers : List ℕ) → reportOf o facts answers ≡ report (refusal number side place) 0 0 0 facts answers) ⌝ }
+{
+    if side == 1 {
+        return Outcome::PolicyRefused(number, place);
+    }
+    if side == 2 {
+        return Outcome::RequestRefused(number, place);
+    }
+    if side == 3 {
+        return Outcome::WithdrawalsRefused(number, place);
+    }
+    Outcome::HierarchyRefused(number, place)
 }
 
 // What the C interface returns: numbers alone.

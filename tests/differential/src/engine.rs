@@ -29,16 +29,16 @@ impl Guarded {
 
 /// The slices as the wrapper takes them.
 pub fn slices<'a>(s: &Slices<'a>) -> secpal::Slices<'a> {
-    secpal::Slices { policy: s.policy, request: s.request, withdrawals: s.withdrawals }
+    secpal::Slices { policy: s.policy, request: s.request, withdrawals: s.withdrawals, hierarchy: s.hierarchy }
 }
 
 /// The engine's decision, and whether all that it should leave as it is was left so: the guards and the slices.
 pub fn decision(s: &Slices, facts: &[u8], answers: &[u8]) -> (Report, bool) {
-    let read = [s.policy, s.request, s.withdrawals].map(Guarded::new);
-    let [policy, request, withdrawals] = read.each_ref().map(Guarded::inside);
+    let read = [s.policy, s.request, s.withdrawals, s.hierarchy].map(Guarded::new);
+    let [policy, request, withdrawals, hierarchy] = read.each_ref().map(Guarded::inside);
     let mut f = Guarded::new(facts);
     let mut a = Guarded::new(answers);
-    let r = secpal::decide(&slices(&Slices { policy, request, withdrawals }), f.lent(), a.lent());
+    let r = secpal::decide(&slices(&Slices { policy, request, withdrawals, hierarchy }), f.lent(), a.lent());
     let verdict = match r.verdict {
         secpal::Verdict::Allow => Verdict::Allow,
         secpal::Verdict::Deny => Verdict::Deny,
@@ -52,7 +52,7 @@ pub fn decision(s: &Slices, facts: &[u8], answers: &[u8]) -> (Report, bool) {
         fact_buffer: f.inside().to_vec(),
         answer_buffer: a.inside().to_vec(),
     };
-    let same = [policy, request, withdrawals] == [s.policy, s.request, s.withdrawals];
+    let same = [policy, request, withdrawals, hierarchy] == [s.policy, s.request, s.withdrawals, s.hierarchy];
     let left = same && read.iter().chain([&f, &a]).all(|b| b.unharmed());
     (report, left)
 }

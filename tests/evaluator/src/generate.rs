@@ -1,4 +1,4 @@
-//! Random policies, requests, withdrawals and buffers: valid ones, damaged ones, and ones at the limits. A seed gives the same case again.
+//! Random policies, requests, withdrawals, hierarchies and buffers: valid ones, damaged ones, and ones at the limits. A seed gives the same case again.
 use crate::read::{DAY, PRINCIPAL, QUANTITY, THING};
 use crate::{Call, Slices, NONE};
 
@@ -362,6 +362,43 @@ fn withdrawals(r: &mut Random, n: &Names) -> Vec<u8> {
     file(body)
 }
 
+/// The parameters, by verb and position from 1, of whose kind there are several constants.
+fn parameters(n: &Names) -> Vec<(usize, usize)> {
+    let of_verb = |(verb, kinds): (usize, &Vec<u8>)| {
+        let several = |position: &usize| n.of_kind(kinds[position - 1]).len() > 1;
+        (1..=kinds.len()).filter(several).map(|position| (verb, position)).collect::<Vec<_>>()
+    };
+    n.verbs.iter().enumerate().skip(1).flat_map(of_verb).collect()
+}
+
+/// An entry for one of these parameters: two constants of its kind. A wild one does not fit, or has one constant twice.
+fn level(r: &mut Random, n: &Names, parameters: &[(usize, usize)]) -> Vec<u8> {
+    let (verb, position) = r.pick(parameters);
+    let all = n.of_kind(n.verbs[verb][position - 1]);
+    let parent = r.pick(&all);
+    let others: Vec<usize> = all.into_iter().filter(|c| *c != parent).collect();
+    let child = if r.wild(10) { parent } else { r.pick(&others) };
+    let mut entry = [&[verb as u8, position as u8], &two(parent)[..], &two(child)].concat();
+    if r.wild(20) {
+        let at = r.below(entry.len());
+        entry[at] = r.pick(&[0, 1, 2, 4, 64, 128, 255]);
+    }
+    entry
+}
+
+fn hierarchy(r: &mut Random, n: &Names) -> Vec<u8> {
+    let parameters = parameters(n);
+    if r.once_in(4) || parameters.is_empty() {
+        return NONE.to_vec();
+    }
+    let entries = if r.once_in(200) { r.range(1020, 1025) } else { r.below(6) };
+    let mut body = two(entries).to_vec();
+    for _ in 0..entries {
+        body.extend(level(r, n, &parameters));
+    }
+    file(body)
+}
+
 /// Some bytes changed, cut out or put in; the length field is mended half of the time.
 fn damage(r: &mut Random, s: &mut Vec<u8>) {
     for _ in 0..r.range(1, 3) {
@@ -389,13 +426,13 @@ fn damage(r: &mut Random, s: &mut Vec<u8>) {
 pub fn case(seed: u64, sizes: impl Fn(&Slices) -> (usize, usize)) -> Call {
     let mut r = Random::new(seed);
     let (policy, names) = policy(&mut r);
-    let mut slices = [policy, request(&mut r, &names), withdrawals(&mut r, &names)];
+    let mut slices = [policy, request(&mut r, &names), withdrawals(&mut r, &names), hierarchy(&mut r, &names)];
     if r.wild(2) {
         let damaged = r.below(slices.len());
         damage(&mut r, &mut slices[damaged]);
     }
-    let [policy, request, withdrawals] = slices;
-    let mut call = Call { policy, request, withdrawals, facts: vec![], answers: vec![] };
+    let [policy, request, withdrawals, hierarchy] = slices;
+    let mut call = Call { policy, request, withdrawals, hierarchy, facts: vec![], answers: vec![] };
     let (facts, answers) = sizes(&call.slices());
     let near = |r: &mut Random, n: usize, width: usize| match r.below(6) {
         0 => (width * n).saturating_sub(1),

@@ -37,6 +37,7 @@ pub struct Slices<'a> {
     pub policy: &'a [u8],
     pub request: &'a [u8],
     pub withdrawals: &'a [u8],
+    pub hierarchy: &'a [u8],
 }
 
 /// A call of the decision: what it reads, and the two buffers as they are lent.
@@ -45,13 +46,14 @@ pub struct Call {
     pub policy: Vec<u8>,
     pub request: Vec<u8>,
     pub withdrawals: Vec<u8>,
+    pub hierarchy: Vec<u8>,
     pub facts: Vec<u8>,
     pub answers: Vec<u8>,
 }
 
 impl Call {
     pub fn slices(&self) -> Slices<'_> {
-        Slices { policy: &self.policy, request: &self.request, withdrawals: &self.withdrawals }
+        Slices { policy: &self.policy, request: &self.request, withdrawals: &self.withdrawals, hierarchy: &self.hierarchy }
     }
 }
 
@@ -60,6 +62,7 @@ pub struct Inputs {
     policy: read::Policy,
     request: read::Request,
     withdrawals: Vec<read::Withdrawal>,
+    hierarchy: Vec<read::Level>,
 }
 
 /// The slices, read one after another; or the first refusal.
@@ -68,7 +71,8 @@ fn inputs(s: &Slices) -> Result<Inputs, Refusal> {
     let policy = read::policy(s.policy).map_err(on(1))?;
     let request = read::request(&policy, s.request).map_err(on(2))?;
     let withdrawals = read::withdrawals(&policy, s.withdrawals).map_err(on(3))?;
-    Ok(Inputs { policy, request, withdrawals })
+    let hierarchy = read::hierarchy(&policy, s.hierarchy).map_err(on(4))?;
+    Ok(Inputs { policy, request, withdrawals, hierarchy })
 }
 
 /// The decision, from bytes to bytes.

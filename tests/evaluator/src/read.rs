@@ -1,7 +1,9 @@
-//! Policies, requests and withdrawals from bytes, with the refusals 1 to 7 and 10.
+//! Policies, requests, withdrawals and hierarchies from bytes, with the refusals 1 to 7, 10 and 11.
 use std::collections::BTreeSet;
 
+mod hierarchy;
 mod withdrawals;
+pub use hierarchy::{hierarchy, Level};
 pub use withdrawals::{withdrawals, Withdrawal};
 
 /// A refusal's number and place.

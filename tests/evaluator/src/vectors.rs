@@ -1,4 +1,4 @@
-//! Lines of cases: `POLICY REQUEST [WITHDRAWALS] FACTLEN ANSLEN FILL => RESULT FACTS ANSWERS`.
+//! Lines of cases: `POLICY REQUEST [WITHDRAWALS [HIERARCHY]] FACTLEN ANSLEN FILL => RESULT FACTS ANSWERS`.
 use crate::{Call, Report, Verdict, NONE};
 
 pub struct Case {
@@ -51,7 +51,7 @@ pub fn case(line: &str) -> Case {
         fact_buffer: buffer(rest[3], &facts),
         answer_buffer: buffer(rest[4], &answers),
     };
-    Case { call: Call { policy: slice(0), request: slice(1), withdrawals: slice(2), facts, answers }, expected }
+    Case { call: Call { policy: slice(0), request: slice(1), withdrawals: slice(2), hierarchy: slice(3), facts, answers }, expected }
 }
 
 /// The cases of a file; a line that begins with `#` names what follows.

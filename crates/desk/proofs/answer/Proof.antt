@@ -22,7 +22,7 @@ returns : tie.Need-returns
 returns c =
     let d = c .before .before .before .before .decide in
     let l = c .line .ensures in
-    (l .0, l .1 .0 ∙ line-of (lent _ _ withoutEntries (replicate 65536 0) (replicate 1024 0)) (d .result) _ _ (d .ensures))
+    (l .0, l .1 .0 ∙ line-of (lent _ _ withoutEntries withoutEntries (replicate 65536 0) (replicate 1024 0)) (d .result) _ _ (d .ensures))
 
 pub answer-spec : {M : Type 1} → statement M
 answer-spec =

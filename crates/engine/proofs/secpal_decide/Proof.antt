@@ -10,7 +10,7 @@ abbrev entry : tie.After-decide → tie.Start
 entry c = let lends = c .before .before in let known = lends .before .before .before in known .before .before .before
 
 abbrev given : tie.Start → Lent
-given c = let a = c .args in lent (a .policy .now) (a .request .now) (a .withdrawals .now) (a .facts .now) (a .answers .now)
+given c = let a = c .args in lent (a .policy .now) (a .request .now) (a .withdrawals .now) (a .hierarchy .now) (a .facts .now) (a .answers .now)
 
 decide-requires : tie.Need-decide-requires
 decide-requires c κs = search needs

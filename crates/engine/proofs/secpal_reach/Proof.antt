@@ -39,7 +39,7 @@ returns-2 c =
     let lends = read .before .before in
     let a = lends .before .before .before .args in
     let says = policy-refused (readPolicy (a .policy .now)) _ _ (ap (λ (x : Index). x .answer) (sym (read .read .ensures)) ∙ told .a .given .1) in
-    let s = slices (a .policy .now) (a .request .now) (a .withdrawals .now) in
+    let s = slices (a .policy .now) (a .request .now) (a .withdrawals .now) (a .hierarchy .now) in
     let words = sym (refused-words s (a .marks .now) _ 1 _ (policy-taken s _ _ says)) in
     (c .refused .ensures ∙ ap refusalOf words, ap (λ (κ : Reached). κ .marks) words)
 

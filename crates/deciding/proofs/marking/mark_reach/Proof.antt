@@ -1,5 +1,6 @@
 -- The marks that `reached` gives over what is left are those of the model's reach.
 use mathlib.Core.Path.{refl, _∙_}
+use mathlib.Core.List.{[]}
 use lib.ListN.{length}
 use borrow.Author.Needs.{needs}
 use Rattle.model.specs.Withdrawals.{leftIn}
@@ -28,8 +29,8 @@ reached-requires c κs =
     let left = c .before .before in
     let start = entry (left .before) in
     let p = start .pre in
-    let leaves = left .left3 .ensures (start .args .request .now) (p .0) (p .1) (p .2) (p .3) (p .4) in
-    ((p .0, p .1, leftIn (read (policyOf (p .0)) (p .1) (p .2)), p .3 .accepts, leaves), p .3 .short)
+    let leaves = left .left3 .ensures (start .args .request .now) (p .0) (p .1) (p .2) [] (p .3) (p .4) in
+    ((p .0, p .1, leftIn (read (policyOf (p .0)) (p .1) (p .2) []), p .3 .accepts, leaves), p .3 .short)
 
 slice-aggregate-mark : tie.Need-slice-aggregate-mark
 slice-aggregate-mark c = search needs
@@ -46,10 +47,10 @@ returns c =
     let reached = mark .before .before .before in
     let left = reached .before .before .before in
     let start = entry (left .before) in
-    λ A q ws k d.
-    let R = read (policyOf A) q ws in
-    let leaves = left .left3 .ensures (start .args .request .now) A q ws k d in
-    let marks = reached .reached .ensures A q (leftIn R) (k .accepts) leaves in
+    λ A q ws H k d.
+    let R = read (policyOf A) q ws H in
+    let leaves = left .left3 .ensures (start .args .request .now) A q ws H k d in
+    let marks = reached .reached .ensures A q H (leftIn R) (k .accepts) leaves in
     mark .mark .ensures ∙ bytes-marks (reachOf R) (reached .reached .result) marks (length (start .args .marks .now)) 0
 
 pub mark-reach-spec : {M : Type 1} → statement M
