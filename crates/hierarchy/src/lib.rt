@@ -27,9 +27,7 @@ const ENTRY: usize = 6;
 // A verb's row in the table of signatures: its arity and one, then the kinds of its parameters.
 const ROW: usize = 4;
 
-// How many entries there may be. They stand behind their 2-byte count.
-const ENTRIES: usize = 1024;
-
+// The entries stand behind their 2-byte count.
 const FIRST: usize = HEADER + 2;
 
 // What the reader hands out: how many entries there are, or why the slice is refused.
@@ -43,42 +41,42 @@ pub struct Hierarchy {
 // ---- kinds
 
 // "an entry for verb 0, for a position 0 or past the verb's arity": none of these.
-fn arity_is(sg: &[u8], s: &[u8], at: usize) -> bool
+fn arity_is(signatures: &[u8], hierarchy: &[u8], at: usize) -> bool
     requires { ⌜ at ≤ longest ⌝ }
-    ensures { λ r. ⌜ r ≡ arityIs (now (sg .entry)) (now (s .entry)) at ⌝ }
+    ensures { λ r. ⌜ r ≡ arityIs (now (signatures .entry)) (now (hierarchy .entry)) at ⌝ }
 {
-    let verb = wire::byte_or(s, at);
+    let verb = wire::byte_or(hierarchy, at);
     if verb == 0 {
         return false;
     }
-    let position = wire::byte_or(s, at + POSITION);
+    let position = wire::byte_or(hierarchy, at + POSITION);
     if position == 0 {
         return false;
     }
-    position < wire::byte_or(sg, ROW * verb)
+    position < wire::byte_or(signatures, ROW * verb)
 }
 
 // Parent and child are constants of the parameter's kind.
-fn kinds_are(ks: &[u8], sg: &[u8], s: &[u8], at: usize) -> bool
+fn kinds_are(kinds: &[u8], signatures: &[u8], hierarchy: &[u8], at: usize) -> bool
     requires { ⌜ at ≤ longest ⌝ }
-    ensures { λ r. ⌜ r ≡ kindsAre (now (ks .entry)) (now (sg .entry)) (now (s .entry)) at ⌝ }
+    ensures { λ r. ⌜ r ≡ kindsAre (now (kinds .entry)) (now (signatures .entry)) (now (hierarchy .entry)) at ⌝ }
 {
     let kind = wire::byte_or(
-        sg,
-        ROW * wire::byte_or(s, at) + wire::byte_or(s, at + POSITION),
+        signatures,
+        ROW * wire::byte_or(hierarchy, at) + wire::byte_or(hierarchy, at + POSITION),
     );
-    if wire::byte_or(ks, wire::u16_or(s, at + PARENT)) == kind {
-        return wire::byte_or(ks, wire::u16_or(s, at + CHILD)) == kind;
+    if wire::byte_or(kinds, wire::u16_or(hierarchy, at + PARENT)) == kind {
+        return wire::byte_or(kinds, wire::u16_or(hierarchy, at + CHILD)) == kind;
     }
     false
 }
 
-fn fits(ks: &[u8], sg: &[u8], s: &[u8], at: usize) -> bool
+fn fits(kinds: &[u8], signatures: &[u8], hierarchy: &[u8], at: usize) -> bool
     requires { ⌜ at ≤ longest ⌝ }
-    ensures { λ r. ⌜ r ≡ fitsBy (now (ks .entry)) (now (sg .entry)) (now (s .entry)) at ⌝ }
+    ensures { λ r. ⌜ r ≡ fitsBy (now (kinds .entry)) (now (signatures .entry)) (now (hierarchy .entry)) at ⌝ }
 {
-    if arity_is(sg, s, at) {
-        return kinds_are(ks, sg, s, at);
+    if arity_is(signatures, hierarchy, at) {
+        return kinds_are(kinds, signatures, hierarchy, at);
     }
     false
 }
@@ -86,12 +84,12 @@ fn fits(ks: &[u8], sg: &[u8], s: &[u8], at: usize) -> bool
 // ---- the entries
 
 // An entry that is there: "11, parent equal to child, after 5 in its entry".
-fn judged(ks: &[u8], sg: &[u8], s: &[u8], at: usize) -> Step
+fn judged(kinds: &[u8], signatures: &[u8], hierarchy: &[u8], at: usize) -> Step
     requires { ⌜ at ≤ longest ⌝ }
-    ensures { λ r. ⌜ r ≡ judgedBy (now (ks .entry)) (now (sg .entry)) (now (s .entry)) at ⌝ }
+    ensures { λ r. ⌜ r ≡ judgedBy (now (kinds .entry)) (now (signatures .entry)) (now (hierarchy .entry)) at ⌝ }
 {
-    if fits(ks, sg, s, at) {
-        if wire::u16_or(s, at + PARENT) == wire::u16_or(s, at + CHILD) {
+    if fits(kinds, signatures, hierarchy, at) {
+        if wire::u16_or(hierarchy, at + PARENT) == wire::u16_or(hierarchy, at + CHILD) {
             return Step::Refused(11, at);
         }
         return Step::Next(at + ENTRY);
@@ -100,31 +98,31 @@ fn judged(ks: &[u8], sg: &[u8], s: &[u8], at: usize) -> Step
 }
 
 // The entry at `at`. "A verb number past the verbs ends the reading of its item: it gives 5".
-fn entry(ks: &[u8], sg: &[u8], s: &[u8], at: usize) -> Step
-    requires { ⌜ (at ≤ length (now s)) × (length (now s) ≤ longest) ⌝ }
-    ensures { λ r. ⌜ r ≡ entryBy (now (ks .entry)) (now (sg .entry)) (now (s .entry)) at ⌝ }
+fn entry(kinds: &[u8], signatures: &[u8], hierarchy: &[u8], at: usize) -> Step
+    requires { ⌜ (at ≤ length (now hierarchy)) × (length (now hierarchy) ≤ longest) ⌝ }
+    ensures { λ r. ⌜ r ≡ entryBy (now (kinds .entry)) (now (signatures .entry)) (now (hierarchy .entry)) at ⌝ }
 {
-    if s.len() < at + 1 {
+    if hierarchy.len() < at + 1 {
         return Step::Refused(3, at);
     }
-    if wire::byte_or(sg, ROW * wire::byte_or(s, at)) == 0 {
+    if wire::byte_or(signatures, ROW * wire::byte_or(hierarchy, at)) == 0 {
         return Step::Refused(5, at);
     }
-    if s.len() < at + ENTRY {
+    if hierarchy.len() < at + ENTRY {
         return Step::Refused(3, at);
     }
-    judged(ks, sg, s, at)
+    judged(kinds, signatures, hierarchy, at)
 }
 
 // n entries from `at` on.
-fn entries(ks: &[u8], sg: &[u8], s: &[u8], n: usize, at: usize) -> Step
-    requires { ⌜ (at ≤ length (now s)) × (length (now s) ≤ longest) ⌝ }
-    ensures { λ r. ⌜ r ≡ entriesBy (now (ks .entry)) (now (sg .entry)) (now (s .entry)) n at ⌝ }
+fn entries(kinds: &[u8], signatures: &[u8], hierarchy: &[u8], n: usize, at: usize) -> Step
+    requires { ⌜ (at ≤ length (now hierarchy)) × (length (now hierarchy) ≤ longest) ⌝ }
+    ensures { λ r. ⌜ r ≡ entriesBy (now (kinds .entry)) (now (signatures .entry)) (now (hierarchy .entry)) n at ⌝ }
 {
     let mut left = n;
     let mut here = at;
     while left != 0 {
-        match entry(ks, sg, s, here) {
+        match entry(kinds, signatures, hierarchy, here) {
             Step::Next(e) => {
                 left -= 1;
                 here = e;
@@ -137,23 +135,30 @@ fn entries(ks: &[u8], sg: &[u8], s: &[u8], n: usize, at: usize) -> Step
 }
 
 // n entries from `at` on, with nothing left over after them.
-fn to_end(ks: &[u8], sg: &[u8], s: &[u8], n: usize, at: usize) -> Step
-    requires { ⌜ (at ≤ length (now s)) × (length (now s) ≤ longest) ⌝ }
-    ensures { λ r. ⌜ r ≡ thenStep (entriesBy (now (ks .entry)) (now (sg .entry)) (now (s .entry)) n at) (endedAt (now (s .entry))) ⌝ }
+fn to_end(kinds: &[u8], signatures: &[u8], hierarchy: &[u8], n: usize, at: usize) -> Step
+    requires { ⌜ (at ≤ length (now hierarchy)) × (length (now hierarchy) ≤ longest) ⌝ }
+    ensures { λ r. ⌜ r
+        ≡ thenStep (entriesBy (now (kinds .entry)) (now (signatures .entry)) (now (hierarchy .entry)) n at) (endedAt (now (hierarchy .entry))) ⌝ }
 {
-    match entries(ks, sg, s, n, at) {
-        Step::Next(e) => slices::ended(s, e),
+    match entries(kinds, signatures, hierarchy, n, at) {
+        Step::Next(e) => slices::ended(hierarchy, e),
         Step::Refused(number, place) => Step::Refused(number, place),
     }
 }
 
 // "2-byte count of 0 to 1,024", and the entries.
-fn list(ks: &[u8], sg: &[u8], s: &[u8]) -> Step
-    requires { ⌜ length (now s) ≤ longest ⌝ }
-    ensures { λ r. ⌜ r ≡ listBy (now (ks .entry)) (now (sg .entry)) (now (s .entry)) ⌝ }
+fn list(kinds: &[u8], signatures: &[u8], hierarchy: &[u8]) -> Step
+    requires { ⌜ length (now hierarchy) ≤ longest ⌝ }
+    ensures { λ r. ⌜ r ≡ listBy (now (kinds .entry)) (now (signatures .entry)) (now (hierarchy .entry)) ⌝ }
 {
-    if slices::count_right(s, 0, ENTRIES, HEADER) {
-        return to_end(ks, sg, s, wire::u16_or(s, HEADER), FIRST);
+    if slices::count_right(hierarchy, 0, limits::HIERARCHY, HEADER) {
+        return to_end(
+            kinds,
+            signatures,
+            hierarchy,
+            wire::u16_or(hierarchy, HEADER),
+            FIRST,
+        );
     }
     Step::Refused(3, HEADER)
 }
@@ -170,33 +175,33 @@ fn refused(number: u8, place: usize) -> Hierarchy
 }
 
 // Version and length are in order.
-fn headed(ks: &[u8], sg: &[u8], s: &[u8]) -> Hierarchy
-    requires { ⌜ length (now s) ≤ longest ⌝ }
-    ensures { λ r. ⌜ r ≡ told (now (s .entry)) (listBy (now (ks .entry)) (now (sg .entry)) (now (s .entry))) ⌝ }
+fn headed(kinds: &[u8], signatures: &[u8], hierarchy: &[u8]) -> Hierarchy
+    requires { ⌜ length (now hierarchy) ≤ longest ⌝ }
+    ensures { λ r. ⌜ r ≡ told (now (hierarchy .entry)) (listBy (now (kinds .entry)) (now (signatures .entry)) (now (hierarchy .entry))) ⌝ }
 {
-    match list(ks, sg, s) {
+    match list(kinds, signatures, hierarchy) {
         Step::Next(_) => Hierarchy {
             refusal: 0,
             place: 0,
-            entries: wire::u16_or(s, HEADER),
+            entries: wire::u16_or(hierarchy, HEADER),
         },
         Step::Refused(number, place) => refused(number, place),
     }
 }
 
-// The hierarchy s under a policy with the kinds ks of its constants and the signatures sg of its verbs (crate phrases, specs/Tables).
-pub fn read(ks: &[u8], sg: &[u8], s: &[u8]) -> Hierarchy
-    ensures meant { λ r. ⌜ ((cs : List Constant) (vs : List Verb) → Tables cs vs (now (ks .entry)) (now (sg .entry))
-        → r ≡ handedOut (readHierarchy cs vs (now (s .entry)))) ⌝ }
-    ensures short { λ r. ⌜ (r .refusal ≡ 0 → length (now (s .entry)) ≤ longest) ⌝ }
+// The hierarchy under a policy with these kinds of its constants and signatures of its verbs (crate phrases, specs/Tables).
+pub fn read(kinds: &[u8], signatures: &[u8], hierarchy: &[u8]) -> Hierarchy
+    ensures meant { λ r. ⌜ ((cs : List Constant) (vs : List Verb) → Tables cs vs (now (kinds .entry)) (now (signatures .entry))
+        → r ≡ handedOut (readHierarchy cs vs (now (hierarchy .entry)))) ⌝ }
+    ensures short { λ r. ⌜ (r .refusal ≡ 0 → length (now (hierarchy .entry)) ≤ longest) ⌝ }
 {
-    if !slices::version_there(s, limits::VERSION) {
+    if !slices::version_there(hierarchy, limits::VERSION) {
         return refused(1, 0);
     }
-    if !slices::length_right(s) {
+    if !slices::length_right(hierarchy) {
         return refused(2, limits::LENGTH_AT);
     }
-    headed(ks, sg, s)
+    headed(kinds, signatures, hierarchy)
 }
 
 // ---- what an accepted hierarchy says
@@ -210,15 +215,15 @@ pub struct Numbers {
 }
 
 // Entry k, counted from 0.
-pub fn entry_at(s: &[u8], k: usize) -> Numbers
+pub fn entry_at(hierarchy: &[u8], k: usize) -> Numbers
     requires { ⌜ k ≤ maxLinks ⌝ }
-    ensures { λ r. ⌜ r ≡ links.told (entryAt (now (s .entry)) k) ⌝ }
+    ensures { λ r. ⌜ r ≡ links.told (entryAt (now (hierarchy .entry)) k) ⌝ }
 {
     let at = FIRST + ENTRY * k;
     Numbers {
-        verb: wire::byte_or(s, at) as u16,
-        position: wire::byte_or(s, at + POSITION) as u16,
-        parent: wire::u16_or(s, at + PARENT) as u16,
-        child: wire::u16_or(s, at + CHILD) as u16,
+        verb: wire::byte_or(hierarchy, at) as u16,
+        position: wire::byte_or(hierarchy, at + POSITION) as u16,
+        parent: wire::u16_or(hierarchy, at + PARENT) as u16,
+        child: wire::u16_or(hierarchy, at + CHILD) as u16,
     }
 }

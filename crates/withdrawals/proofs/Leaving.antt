@@ -4,20 +4,19 @@ use mathlib.Core.Bool.{Bool, true, false, _&&_, not}
 use mathlib.Core.List.{List, [], _∷_, _++_, append-nil}
 use Prim.Native.Nat.{ℕ, zero, suc, _+_, _-_, _≤_, _<_}
 use native.Mathlib.Numerals.{sub-one, add-one}
-use native.Mathlib.Decide.{decLt}
 use native.Mathlib.Omega.{arith}
 use lib.Dec.{eqb, ltb}
 use lib.ListN.{length, length-set, getD, set, take}
 use lib.Seq.{length-take-le, take-suc, take-suc-set, getD-set-other}
-use borrow.Author.Tests.{lt-ltb, le-ltb, eq-eqb, ne-eqb}
-use Rattle.wire.proofs.Reading.{choose-true, choose-false}
+use borrow.Author.Tests.{eqb-true, eq-eqb, ne-eqb}
+use Rattle.model.proofs.Tests.{and-true}
 use Rattle.model.specs.Limits.{firstVariable, todayCode}
 use Rattle.model.specs.Lists.{only, all}
-use Rattle.model.specs.Syntax.{con, var, today, Withdrawal, World}
+use Rattle.model.specs.Syntax.{con, var, today, World}
 use Rattle.model.specs.Bytes.{u16At, u32At, choose, both}
 use Rattle.model.specs.Values.{passes}
 use Rattle.model.specs.Readings.{exprOf, constraintAt, constraintsAt}
-use Rattle.model.specs.Withdrawals.{isConstant, noBinding, removes}
+use Rattle.model.specs.Withdrawals.{isConstant, noBinding}
 use Rattle.model.specs.Entries.{withdrawalAt}
 use Rattle.slices.specs.Items.{itemsAt}
 use Rattle.withdrawals.specs.Left.{entriesAt, named, staysAt, picked}
@@ -48,7 +47,7 @@ constant-is x issuer = go (eqb x todayCode) (ltb x firstVariable)
     go false true = refl
     go false false = refl
 
-and-false : (a : Bool) → (a && false) ≡ false
+pub and-false : (a : Bool) → (a && false) ≡ false
 and-false true = refl
 and-false false = refl
 
@@ -70,6 +69,13 @@ module _ (s : List ℕ) (at issuer serial : ℕ) where
   pub names-same : (z : Bool) → x ≡ issuer → code ≡ true → z ≡ eqb (u32At s (at + 2)) serial → z ≡ named (withdrawalAt s at) issuer serial
   names-same z e h g = g ∙ sym (names-is ∙ ap₂ (λ (a b : Bool). (a && b) && eqb (u32At s (at + 2)) serial) h (eq-eqb x issuer e))
 
+  -- an entry that is for them has both
+  pub names-both : named (withdrawalAt s at) issuer serial ≡ true → (x ≡ issuer) × (u32At s (at + 2) ≡ serial)
+  names-both h =
+      let fields = and-true (code && eqb x issuer) (eqb (u32At s (at + 2)) serial) (sym names-is ∙ h) in
+      let first = and-true code (eqb x issuer) (fields .0) in
+      (eqb-true x issuer (first .1), eqb-true (u32At s (at + 2)) serial (fields .1))
+
   pub names-none : code ≡ false → false ≡ named (withdrawalAt s at) issuer serial
   names-none h = sym (names-is ∙ ap (λ (a : Bool). (a && eqb x issuer) && eqb (u32At s (at + 2)) serial) h)
 
@@ -88,6 +94,13 @@ module _ (f : ℕ → ℕ → Bool) where
   picked-all [] (j ∷ js) l h = absurd (omega arith)
   picked-all (i ∷ is) [] l h = refl
   picked-all (i ∷ is) (j ∷ js) l h = rw (h i j) (ap (_∷_ j) (picked-all is js (omega arith) h))
+
+  -- by another test that is the same
+  pub picked-same : (g : ℕ → ℕ → Bool) → ((i j : ℕ) → f i j ≡ g i j) → (is js : List ℕ) → picked f is js ≡ picked g is js
+  unfolding picked
+  picked-same g h [] js = refl
+  picked-same g h (i ∷ is) [] = refl
+  picked-same g h (i ∷ is) (j ∷ js) = ap₂ (λ (b : Bool) (l : List ℕ). only b j ++ l) (h i j) (picked-same g h is js)
 
   picked-append : (is js : List ℕ) (i j : ℕ) → length is ≡ length js → picked f (is ++ i ∷ []) (js ++ j ∷ []) ≡ picked f is js ++ (only (f i j) j ++ [])
   unfolding picked

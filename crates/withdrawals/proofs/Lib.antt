@@ -1,3 +1,5 @@
 pub mod Steps
 pub mod Meaning
 pub mod Leaving
+pub mod Holding
+pub mod Sought

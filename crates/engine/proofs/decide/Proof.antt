@@ -32,8 +32,8 @@ returns-2 c =
     let read = told .before .before in
     let lends = read .before .before .before in
     let a = lends .before .before .before .args in
-    policy-call (lent (a .policy .now) (a .request .now) (a .withdrawals .now) (a .hierarchy .now) (a .facts .now) (a .answers .now)) (read .read .result) _ _ (read .read .ensures)
-    (told .a .given .1)
+    let l = lent (a .policy .now) (a .request .now) (a .withdrawals .now) (a .hierarchy .now) (a .facts .now) (a .answers .now) in
+    policy-call l (read .read .result) _ _ (read .read .ensures) (told .a .given .1)
 
 pub decide-spec : {M : Type 1} → statement M
 decide-spec =

@@ -18,7 +18,13 @@ judged-spec =
     (λ c κs. search needs)
     (λ c. search needs)
     (λ c κs. search needs)
-    (λ c. rw (← c .before .before .before .before .fits2 .ensures, ← c .before .before .u16-or .ensures .0, ← c .before .u16-or2 .ensures .0) (search (reading, needs)))
+    (λ c.
+    let child = c .before in
+    let parent = child .before in
+    rw (← parent .before .before .fits2 .ensures, ← parent .u16-or .ensures .0, ← child .u16-or2 .ensures .0) (search (reading, needs)))
     (λ c. search needs)
-    (λ c. rw (← c .before .before .before .before .fits2 .ensures, ← c .before .before .u16-or .ensures .0, ← c .before .u16-or2 .ensures .0) (search (reading, needs)))
+    (λ c.
+    let child = c .before in
+    let parent = child .before in
+    rw (← parent .before .before .fits2 .ensures, ← parent .u16-or .ensures .0, ← child .u16-or2 .ensures .0) (search (reading, needs)))
     (λ c. rw (← c .before .fits2 .ensures) (search (reading, needs))))

@@ -25,5 +25,28 @@ kinds-are-spec =
     (λ c. search needs)
     (λ c κs. search needs)
     (λ c κs. search needs)
-    (λ c. rw (← c .before .before .before .before .before .before .before .byte-or .ensures .0, ← c .before .before .before .before .before .before .byte-or2 .ensures .0, ← c .before .before .before .before .before .byte-or3 .ensures .0, ← c .before .before .before .before .u16-or .ensures .0, ← c .before .before .before .byte-or4 .ensures .0, ← c .before .u16-or2 .ensures .0) (search (reading, needs)))
-    (λ c. rw (← c .before .before .before .before .before .byte-or .ensures .0, ← c .before .before .before .before .byte-or2 .ensures .0, ← c .before .before .before .byte-or3 .ensures .0, ← c .before .before .u16-or .ensures .0, ← c .before .byte-or4 .ensures .0) (search (reading, needs))))
+    (λ c.
+    let other = c .before .before .before in
+    let parent = other .before in
+    let kind = parent .before in
+    let position = kind .before in
+    rw (
+      ← position .before .byte-or .ensures .0,
+      ← position .byte-or2 .ensures .0,
+      ← kind .byte-or3 .ensures .0,
+      ← parent .u16-or .ensures .0,
+      ← other .byte-or4 .ensures .0,
+      ← c .before .u16-or2 .ensures .0,
+    ) (search (reading, needs)))
+    (λ c.
+    let other = c .before in
+    let parent = other .before in
+    let kind = parent .before in
+    let position = kind .before in
+    rw (
+      ← position .before .byte-or .ensures .0,
+      ← position .byte-or2 .ensures .0,
+      ← kind .byte-or3 .ensures .0,
+      ← parent .u16-or .ensures .0,
+      ← other .byte-or4 .ensures .0,
+    ) (search (reading, needs))))

@@ -14,14 +14,14 @@ u32-or-requires c κs = search needs
 u16-or-requires : tie.Need-u16-or-requires
 u16-or-requires c κs = search needs
 
-is-removed-requires : tie.Need-is-removed-requires
-is-removed-requires c κs = search needs
+is-named-requires : tie.Need-is-named-requires
+is-named-requires c κs = search needs
 
 returns : tie.Need-returns
 returns c =
     let issuer = c .before in
-    rw (← issuer .u16-or .ensures .0, ← issuer .before .u32-or .ensures .0) (ap not (c .is-removed .ensures))
+    λ count linked. rw (← issuer .u16-or .ensures .0, ← issuer .before .u32-or .ensures .0) (ap not (c .is-named .ensures count linked))
 
 pub stays-spec : {M : Type 1} → statement M
 stays-spec =
-    tie.close (tie.spec add-u32-or u32-or-requires u16-or-requires is-removed-requires returns)
+    tie.close (tie.spec add-u32-or u32-or-requires u16-or-requires is-named-requires returns)

@@ -1,0 +1,6 @@
+pub mod Holding
+pub mod Finding
+pub mod Scanning
+pub mod Growing
+pub mod Laying
+pub mod Covering
