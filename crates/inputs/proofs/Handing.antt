@@ -69,15 +69,15 @@ module _ (P : Policy) where
     none : (h .refusal ≡ 0 → ⊥) → taken y yw yh ≡ refusedOn (h .refusal) (h .side) (h .place)
     side : (h .refusal ≡ 0 → ⊥) → (1 ≤ h .side) × (h .side ≤ 4)
 
-  some-number : {ns : List ℕ} {n : ℕ} {A : Type 0} → (T (member 0 ns) → ⊥) → T (member n ns) → n ≡ 0 → A
-  some-number {ns} z t e = absurd (z (subst (λ (m : ℕ). T (member m ns)) e t))
+  some-number : (ns : List ℕ) {n : ℕ} {A : Type 0} → (T (member 0 ns) → ⊥) → T (member n ns) → n ≡ 0 → A
+  some-number ns z t e = absurd (z (subst (λ (m : ℕ). T (member m ns)) e t))
 
   tells : (y : Reading syntax.Request) (yw : Reading (List Withdrawal)) (yh : Reading (List Link)) → RefusesBy ofRequest y → RefusesBy ofWithdrawals yw
       → RefusesBy ofHierarchy yh → Tells y yw yh (handedOut (taken y yw yh))
   unfolding sided handedOut requests.handedOut
-  tells (refused n p) yw yh k l m = record { all = some-number (λ t. t) k; none = λ z. refl; side = λ z. (omega arith, omega arith) }
-  tells (got q e) (refused n p) yh k l m = record { all = some-number (λ t. t) l; none = λ z. refl; side = λ z. (omega arith, omega arith) }
-  tells (got q e) (got ws f) (refused n p) k l m = record { all = some-number (λ t. t) m; none = λ z. refl; side = λ z. (omega arith, omega arith) }
+  tells (refused n p) yw yh k l m = record { all = some-number ofRequest (λ t. t) k; none = λ z. refl; side = λ z. (omega arith, omega arith) }
+  tells (got q e) (refused n p) yh k l m = record { all = some-number ofWithdrawals (λ t. t) l; none = λ z. refl; side = λ z. (omega arith, omega arith) }
+  tells (got q e) (got ws f) (refused n p) k l m = record { all = some-number ofHierarchy (λ t. t) m; none = λ z. refl; side = λ z. (omega arith, omega arith) }
   tells (got q e) (got ws f) (got H g) k l m = record {
     all = λ z. record {
       q = q;

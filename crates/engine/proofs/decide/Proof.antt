@@ -31,7 +31,7 @@ returns-2 c =
     let told = c .before in
     let read = told .before .before in
     let lends = read .before .before .before in
-    let a = lends .before .before .before .args in
+    let a = lends .before .before .before .before .args in
     let l = lent (a .policy .now) (a .request .now) (a .withdrawals .now) (a .hierarchy .now) (a .facts .now) (a .answers .now) in
     policy-call l (read .read .result) _ _ (read .read .ensures) (told .a .given .1)
 

@@ -7,7 +7,7 @@ use Rattle.engine.proofs.secpal_decide.Tie as tie
 
 -- the entry, from the place after the decision
 abbrev entry : tie.After-decide → tie.Start
-entry c = let lends = c .before .before in let known = lends .before .before .before in known .before .before .before
+entry c = let lends = c .before .before in let known = lends .before .before .before in known .before .before .before .before
 
 abbrev given : tie.Start → Lent
 given c = let a = c .args in lent (a .policy .now) (a .request .now) (a .withdrawals .now) (a .hierarchy .now) (a .facts .now) (a .answers .now)
