@@ -210,9 +210,9 @@ VersionsDerive = NoMoreByVersion2 × NoMoreInReach
 -- two calls on slices that say the same, but that the policy is of version 2 and then of version 1: if the request has no "not" and both get a decision,
 -- every answer by version 2 is one by version 1
 abbrev pub VersionsCall : Type 0
-VersionsCall = (l : Lent) (other : List ℕ) (R : Read) (ρ ρ′ : Report) → Call l ρ → Call (withPolicy other l) ρ′
+VersionsCall = (l : Lent) (other : List ℕ) (R : Read) (ρ₂ ρ₁ : Report) → Call l ρ₂ → Call (withPolicy other l) ρ₁
     → Inputs (l .slices) (readInVersion 2 R) → ReadAs other (policyInVersion 1 (R .policy)) → Positive (R .request .node)
-    → IsDecision (ρ .verdict) → IsDecision (ρ′ .verdict) → (θ : List ℕ) → ListedIn ρ θ → ListedIn ρ′ θ
+    → IsDecision (ρ₂ .verdict) → IsDecision (ρ₁ .verdict) → (θ : List ℕ) → ListedIn ρ₂ θ → ListedIn ρ₁ θ
 
 -- ---- whose words count: what a call of `secpal_reach` gives, and what demand 3 makes of it
 
