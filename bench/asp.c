@@ -117,7 +117,7 @@ static void print_program(FILE *out, const program *g) {
     for (uint32_t i = 0; i < g->rules; i++) print_rule(out, g, &g->rule[i]);
     fprintf(out, "says(A,1,F) :- says(A,1,c(B,K,F)), says(B,K,F).\n");
     fprintf(out, "says(A,D,f(B,V,P,Q,R)) :- says(A,D,f(B,0,C,0,0)), says(A,D,f(C,V,P,Q,R)).\n");
-    fprintf(out, "says(A,D,c(B,K,F)) :- says(A,D,f(B,0,C,0,0)), says(A,D,c(C,K,F)).\n");
+    if (g->version == 1) fprintf(out, "says(A,D,c(B,K,F)) :- says(A,D,f(B,0,C,0,0)), says(A,D,c(C,K,F)).\n");
 }
 
 static FILE *start(const char *options, const char *path) {

@@ -98,7 +98,7 @@ static void reach_on(program *g) {
             const rule *r = &g->rule[i];
             if (!g->reached[r->issuer]) continue;
             if (r->head[NEST] > 0) reach_out(g, r->head[SPEAKER]);
-            else if (r->head[VERB] == 0) reach_out(g, r->head[SUBJECT]);
+            else if (r->head[VERB] == 0 && g->version == 1) reach_out(g, r->head[SUBJECT]);
         }
         after = 0;
         for (uint32_t c = 0; c < g->constants; c++) after += g->reached[c];
@@ -149,6 +149,7 @@ uint32_t descendants(const program *g, uint8_t verb, unsigned parameter, uint8_t
 
 void read_program(program *g, const slices *given) {
     const uint8_t *policy = given->policy.data, *request = given->request.data, *p = policy + 7;
+    g->version = policy[0];
     g->constants = two(policy + 5);
     for (uint32_t i = 0; i < g->constants; i++) p = read_constant(&g->constant[i], p);
     g->verbs = two(p);

@@ -37,7 +37,7 @@ typedef struct {
 } level;
 
 typedef struct {
-    uint32_t constants, verbs, rules, today;
+    uint32_t version, constants, verbs, rules, today;
     constant constant[255];
     uint8_t arity[65], parameter[65][3];
     bool reached[255];

@@ -14,7 +14,7 @@ static size_t policy_len, request_len, withdrawals_len, hierarchy_len;
 
 static const char *const refusals[] = {
     "",
-    "the version is absent or not 1",
+    "the version is absent or not known",
     "the length field is short or wrong",
     "a count, arity, kind, label, nest, depth, operator, node, variable, day or length has no meaning",
     "a constant or verb is alike to an earlier one",

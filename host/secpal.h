@@ -27,6 +27,7 @@ extern "C" {
 /* The limits, by name. crates/engine has them under the same names. */
 enum {
     SECPAL_VERSION = 1,       /* the first byte of each slice */
+    SECPAL_POLICY_VERSIONS = 2, /* a policy's is 1 or 2; in 2 acting as somebody does not carry what he can say */
     SECPAL_CONSTANTS = 255,   /* constants in a policy */
     SECPAL_VERBS = 64,        /* verbs in a policy, beside verb 0, "can act as" */
     SECPAL_ASSERTIONS = 256,  /* assertions in a policy */
@@ -158,8 +159,8 @@ uint32_t secpal_find(const uint8_t *policy, size_t policy_len, uint32_t kind, co
 /*
  * Whose words count for this request: marks[i] becomes 1 if constant i is a principal in the request's reach, and 0 otherwise, for all of
  * marks_len. The reach is the least set of principals that has every issuer in the request's says nodes and, for each assertion issued in the
- * set and not withdrawn, the outermost speaker of a nested head and the subject of a flat head with verb 0; where one of these is a variable, all
- * principals join. The hierarchy brings nobody in.
+ * set and not withdrawn, the outermost speaker of a nested head and, in a policy of version 1, the subject of a flat head with verb 0; where one of
+ * these is a variable, all principals join. The hierarchy brings nobody in.
  * Nobody outside can change a byte of the decision: whatever statements they add, result and both buffers stay the same
  * (demand 3 of docs/PROOFS.md). No derivation is done. With a refusal from the input (1 to 7, 10, 11) the report's refusal, side and place are those
  * that secpal_decide would give, and the marks are as they were; otherwise all fields of the report are 0, and the marks are written.

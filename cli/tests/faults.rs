@@ -92,7 +92,7 @@ fn refusals_of_the_engine() {
     assert_eq!(verbs, "3:1: refused (4): the verb May-Order is declared already, as may-order: capitals do not tell labels apart");
     let long = complaint("long.secpal", &format!("principal {}\n", "a".repeat(33)), None);
     assert_eq!(long, "1:11: refused (3): a label has 1 to 32 characters, and this one has 33");
-    assert_eq!(complaint("version.secpal", "version 2\nprincipal A\n", None), "1:1: refused (1): the version is absent or not known");
+    assert_eq!(complaint("version.secpal", "version 3\nprincipal A\n", None), "1:1: refused (1): the version is absent or not known");
     let comma = complaint("comma.secpal", "principal Works Otto\n", None);
     assert_eq!(comma, "1:17: a comma or the end of the line is wanted here, not \"Otto\"");
     let sign = complaint("sign.secpal", "principal W\u{f6}rks\n", None);

@@ -152,6 +152,20 @@ fn families_in_bytes() {
     assert_eq!(secpal(&both).complained, "secpal: one file at a time: withdrawals or a hierarchy\n");
 }
 
+/// Under version 1 whoever acts as North vouches as North does, and its words count; under version 2 neither.
+#[test]
+fn stand_ins() {
+    let (policy, asked) = ("stand-ins/stand-ins.secpal", "on 2026-11-17 ask Works says Otto is-fitter");
+    assert_eq!(secpal(&["test", policy, "stand-ins/stand-ins.expect"]).printed, "2 as expected, 0 not\n");
+    assert_eq!(secpal(&["reach", policy, asked]).printed, "Works\nNorth\n");
+    assert!(secpal(&["show", policy]).printed.starts_with("version 2\n\nprincipal"));
+    let text =
+        std::fs::read_to_string(concat!(env!("CARGO_MANIFEST_DIR"), "/../examples/stand-ins/stand-ins.secpal")).expect("the example");
+    let first = scratch("stand-ins.secpal", text.replace("version 2", "version 1").as_bytes());
+    assert_eq!(secpal(&["decide", &first, asked]).status, 0);
+    assert_eq!(secpal(&["reach", &first, asked]).printed, "Works\nNorth\nSouth\n");
+}
+
 #[test]
 fn answers_for_programs() {
     let ran = secpal(&["decide", "belt/policy.bin", "belt/who.bin", "--json"]);
@@ -190,6 +204,8 @@ fn the_examples_are_in_their_layout() {
         "belt/withdrawals.secpal",
         "parts/parts.secpal",
         "parts/families.secpal",
+        "stand-ins/stand-ins.secpal",
+        "stand-ins/stand-ins.expect",
     ] {
         assert_eq!(secpal(&["fmt", "--check", file]).status, 0, "{file}");
     }

@@ -1,6 +1,7 @@
 //! The header's numbers, under the header's names without `SECPAL_`.
 
 pub const VERSION: usize = 1;
+pub const POLICY_VERSIONS: usize = 2;
 pub const CONSTANTS: usize = 255;
 pub const VERBS: usize = 64;
 pub const ASSERTIONS: usize = 256;

@@ -140,12 +140,17 @@ theRecords = ((λ s R h e f. record-length R s h e f), M.recordsTell)
 pub outsidersCall : Q.OutsidersCall
 outsidersCall l longer R L ρ ρ′ c c′ h a x = c′ ∙ (M.outsiders l longer R L h a x ∙ sym c)
 
-pub growingCall : Q.GrowingCall
-growingCall l longer R L ρ ρ′ c c′ h a x p d d′ θ k =
+-- what holds of two decisions holds of what two calls report
+reported-more : {ρ ρ′ δ δ′ : Report} → ρ ≡ δ → ρ′ ≡ δ′ → (θ : List ℕ)
+    → (IsDecision (δ .verdict) → IsDecision (δ′ .verdict) → ListedIn δ θ → ListedIn δ′ θ)
+    → IsDecision (ρ .verdict) → IsDecision (ρ′ .verdict) → ListedIn ρ θ → ListedIn ρ′ θ
+reported-more c c′ θ more d d′ k =
     subst (λ (ρ : Report). ListedIn ρ θ) (sym c′)
-    (M.growing l longer R L h a x p
-    (subst (λ (ρ : Report). IsDecision (ρ .verdict)) c d) (subst (λ (ρ : Report). IsDecision (ρ .verdict)) c′ d′)
-    θ (subst (λ (ρ : Report). ListedIn ρ θ) c k))
+    (more (subst (λ (ρ : Report). IsDecision (ρ .verdict)) c d) (subst (λ (ρ : Report). IsDecision (ρ .verdict)) c′ d′)
+    (subst (λ (ρ : Report). ListedIn ρ θ) c k))
+
+pub growingCall : Q.GrowingCall
+growingCall l longer R L ρ ρ′ c c′ h a x p d d′ θ k = reported-more c c′ θ (λ d d′ k. M.growing l longer R L h a x p d d′ θ k) d d′ k
 
 pub insidersSay : Q.InsidersSay
 insidersSay = M.insiders
@@ -171,6 +176,14 @@ theDescendants = M.computedDescendants
 
 pub theGround : Q.TheGround
 theGround = M.ground
+
+-- ---- versions
+
+pub versionsDerive : Q.VersionsDerive
+versionsDerive = (M.noMoreByVersion2, M.noMoreInReach)
+
+pub versionsCall : Q.VersionsCall
+versionsCall l other R ρ ρ′ c c′ h a p d d′ θ k = reported-more c c′ θ (λ d d′ k. M.growingByVersion l other R h a p d d′ θ k) d d′ k
 
 -- ---- whose words count
 

@@ -4,7 +4,7 @@ use mathlib.Core.List.{List, [], _∷_, _++_}
 use mathlib.Core.Bool.{Bool, true, false}
 use Prim.Native.Nat.{ℕ, zero, suc, _+_}
 use lib.Dec.{T}
-use Rattle.model.specs.Limits.{maxDepth, version}
+use Rattle.model.specs.Limits.{maxDepth, version, policyVersions}
 use Rattle.model.specs.Lists.{member}
 use Rattle.model.specs.Syntax.{Assertion, Withdrawal, Link, Constant, Verb, Request}
 use Rattle.model.specs.Kinds.{Demands}
@@ -85,7 +85,7 @@ item-numbers cs vs s before at = assertion-numbers (assertionForm vs s at) cs vs
 pub policy-numbers : (s : List ℕ) → RefusesBy ofPolicy (readPolicy s)
 unfolding computedPolicy constantsFrom verbsFrom assertionsFrom
 policy-numbers s = rw (policy-is s) (
-    by-head ofPolicy version s _ tt tt
+    by-head ofPolicy policyVersions s _ tt tt
     (by-turns ofPolicy _ _ (by-list ofPolicy s _ _ _ tt (constant-numbers s) _)
     (λ cs e. by-turns ofPolicy _ _ (by-list ofPolicy s _ _ _ tt (verb-numbers s) e)
     (λ vs e. by-turns ofPolicy _ _ (by-list ofPolicy s _ _ _ tt (item-numbers (contents cs) (contents vs) s) e)

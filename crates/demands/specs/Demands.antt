@@ -1,5 +1,5 @@
--- The three demands, and what requests 02 and 05 add, as statements about calls of the engine. `proofs/Demands.antt` has a proof of each, under the same name
--- with a small first letter.
+-- The three demands, and what requests 02, 05 and 06 add, as statements about calls of the engine. `proofs/Demands.antt` has a proof of each, under the same
+-- name with a small first letter.
 use mathlib.Core.Path.{_≡_}
 use mathlib.Core.Logic.{_↔_, _⊎_}
 use mathlib.Core.List.{List, [], _∷_, List·Memᴰ}
@@ -21,6 +21,7 @@ use Rattle.model.specs.Decision.{room, cleared, untouched, decision}
 use Rattle.model.specs.Theorems.{ReadAs, AskedAs, WithdrawnAs, RankedAs, Inputs, DerivableIn, EntryIn, AnswerIn, InReach, Longer, withPolicy, IssuedOutside}
 use Rattle.model.specs.Theorems.{Anyone, Positive, Ground, NoHierarchy, ComputedDescendants}
 use Rattle.model.specs.Theorems.{IsDecision, answerIn, ListedIn, RecordsTell, Insiders, withoutEntries, withWithdrawals, withAssertions, withoutSerials}
+use Rattle.model.specs.Theorems.{policyInVersion, readInVersion, NoMoreByVersion2, NoMoreInReach}
 use Rattle.demands.specs.Lookups.{Reached, whoseWords}
 
 -- what the contract of `decide` says of a call: ρ is what it returned, and what both buffers hold then
@@ -199,6 +200,19 @@ TheDescendants = ComputedDescendants
 -- what is derived is ground: a parameter that is replaced is a constant of the verb's kind
 abbrev pub TheGround : Type 0
 TheGround = Ground
+
+-- ---- versions (request 06): every statement above is of both. What version 2 derives, version 1 derives too; no calls in it, so it stands as in the model
+
+-- from one list of assertions within the same rounds, and so from what the reach of each counts
+abbrev pub VersionsDerive : Type 0
+VersionsDerive = NoMoreByVersion2 × NoMoreInReach
+
+-- two calls on slices that say the same, but that the policy is of version 2 and then of version 1: if the request has no "not" and both get a decision,
+-- every answer by version 2 is one by version 1
+abbrev pub VersionsCall : Type 0
+VersionsCall = (l : Lent) (other : List ℕ) (R : Read) (ρ₂ ρ₁ : Report) → Call l ρ₂ → Call (withPolicy other l) ρ₁
+    → Inputs (l .slices) (readInVersion 2 R) → ReadAs other (policyInVersion 1 (R .policy)) → Positive (R .request .node)
+    → IsDecision (ρ₂ .verdict) → IsDecision (ρ₁ .verdict) → (θ : List ℕ) → ListedIn ρ₂ θ → ListedIn ρ₁ θ
 
 -- ---- whose words count: what a call of `secpal_reach` gives, and what demand 3 makes of it
 

@@ -2,9 +2,11 @@
 ghost use mathlib.Core.Path.{_≡_};
 ghost use Rattle.limits.specs.All.{all};
 
-// ---- "Byte 0: version, 1. Bytes 1 to 4: count of all bytes after them."; a request: "today (4 bytes ..), one node"
+// ---- "Byte 0: version, 1. Bytes 1 to 4: count of all bytes after them."; a request: "today (4 bytes ..), one node". A policy's versions are 1 and 2.
 
 pub const VERSION: usize = 1;
+
+pub const POLICY_VERSIONS: usize = 2;
 
 pub const LENGTH_AT: usize = 1;
 
@@ -90,11 +92,12 @@ pub const UNBOUND: usize = 255;
 
 // ---- all of them, in this order: each is the model's
 
-pub fn all() -> [usize; 33]
+pub fn all() -> [usize; 34]
     ensures { λ r. ⌜ r ≡ all ⌝ }
 {
     [
         VERSION,
+        POLICY_VERSIONS,
         LENGTH_AT,
         HEADER,
         FIRST_NODE,

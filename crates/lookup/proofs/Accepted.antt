@@ -10,7 +10,7 @@ use native.Mathlib.Omega.{arith}
 use lib.Dec.{T, eqb, ltb}
 use lib.ListN.{length, getD, take, length-map, length-append}
 use borrow.Author.Tests.{lt-ltb, eqb-true}
-use Rattle.model.specs.Limits.{maxConstants, maxVerbs, version}
+use Rattle.model.specs.Limits.{maxConstants, maxVerbs, policyVersions}
 use Rattle.model.specs.Syntax.{Constant, Verb}
 use Rattle.model.specs.Kinds.{noConstant, kindAt}
 use Rattle.model.specs.Values.{alike}
@@ -127,7 +127,7 @@ module _ (s : List ℕ) (bytes : (i : ℕ) → byteAt s i < 256) where
   accepted-stand : (A : Accepted) (e : ℕ) → readPolicy s ≡ got A e → Stand A
   unfolding computedPolicy constantsFrom verbsFrom assertionsFrom
   accepted-stand A e h =
-      let r = headed-got version s _ A e (sym (policy-is s) ∙ h) in
+      let r = headed-got policyVersions s _ A e (sym (policy-is s) ∙ h) in
       let c = andThen-got _ _ A e r in
       let v = andThen-got _ _ A e (c .3) in
       let a = andThen-got _ _ A e (v .3) in

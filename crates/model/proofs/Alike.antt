@@ -8,7 +8,7 @@ use native.Mathlib.Omega.{arith}
 use lib.ListN.{length, getD, take, drop}
 use lib.Dec.{T, eqb, ltb, leb}
 use borrow.Author.Tests.{eq-eqb, leb-true}
-use Rattle.model.specs.Limits.{principal, thing, maxConstants, maxVerbs, version, headerBytes}
+use Rattle.model.specs.Limits.{principal, thing, maxConstants, maxVerbs, policyVersions, headerBytes}
 use Rattle.model.specs.Lists.{any, front}
 use Rattle.model.specs.Syntax.{Constant, Verb, Policy}
 use Rattle.model.specs.Kinds.{noConstant}
@@ -81,7 +81,7 @@ AllNew P = Apart noConstant alikeConstants (P .constants) × Apart nameless alik
 accepted-new : (s : List ℕ) (A : Accepted) (e : ℕ) → readPolicy s ≡ got A e → AllNew (policyOf A)
 unfolding computedPolicy constantsFrom verbsFrom assertionsFrom
 accepted-new s A e r =
-    let c = andThen-got _ _ A e (headed-got version s _ A e (sym (policy-is s) ∙ r)) in
+    let c = andThen-got _ _ A e (headed-got policyVersions s _ A e (sym (policy-is s) ∙ r)) in
     let v = andThen-got _ _ A e (c .3) in
     let a = andThen-got _ _ A e (v .3) in
     let constants = list-apart noConstant alikeConstants (constantItem s) (constant-new s) s 1 maxConstants headerBytes (c .0) (c .1) (c .2) in
@@ -116,7 +116,7 @@ constants-each : (Q : Constant → Type 0) (s : List ℕ)
     → (A : Accepted) (e : ℕ) → readPolicy s ≡ got A e → (c : Constant) → List·Memᴰ c (contents (A .constants)) → Q c
 unfolding computedPolicy constantsFrom verbsFrom assertionsFrom
 constants-each Q s item A e r =
-    let c = andThen-got _ _ A e (headed-got version s _ A e (sym (policy-is s) ∙ r)) in
+    let c = andThen-got _ _ A e (headed-got policyVersions s _ A e (sym (policy-is s) ∙ r)) in
     let v = andThen-got _ _ A e (c .3) in
     let a = andThen-got _ _ A e (v .3) in
     subst (λ (B : Accepted). (x : Constant) → List·Memᴰ x (contents (B .constants)) → Q x) (ended-got s _ A (a .1) e (a .3))

@@ -143,7 +143,7 @@ module _ (vs : List Verb) (kinded : (v : ℕ) → T (all isKind (paramKinds vs v
 
 -- "variables range over the policy's constants of their kind", of an assertion of an accepted policy
 pub instances : (policy : List ℕ) (P : Policy) → ReadAs policy P → (t : ℕ) (a : Assertion) → List·Memᴰ a (P .assertions) → (θ : List ℕ)
-    → List·Memᴰ θ (bindingsOf (record { constants = P .constants; verbs = P .verbs; today = t; hierarchy = [] }) a)
+    → List·Memᴰ θ (bindingsOf (record { version = P .version; constants = P .constants; verbs = P .verbs; today = t; hierarchy = [] }) a)
     ↔ ((κ : List ℕ) × Fits (P .constants) (demandsOf (P .verbs) a) κ × Binds (P .constants) κ (inPlaces (demandsOf (P .verbs) a)) θ)
 instances policy P h t a m θ = (
   λ b. binds-of cs D S has fit θ (subst (λ (ks : List ℕ). List·Memᴰ θ (bindings cs ks)) (sym same) b),

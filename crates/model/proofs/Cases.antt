@@ -19,9 +19,9 @@ use Rattle.model.specs.Decision.{sided, readSlices, decisionOf, decision
 use Rattle.model.specs.Theorems.{done, keeps, adds}
 use Rattle.model.proofs.ListFacts.{member-in}
 use Rattle.model.proofs.ReachFacts.{reach-in}
-use Rattle.model.specs.Cases.{P, Q, longerP, Belt, Turnings, Readings, Withdrawing, Inheriting, BeltPair}
+use Rattle.model.specs.Cases.{P, Q, longerP, Belt, Turnings, Readings, Withdrawing, Inheriting, StandIns, BeltPair}
 
-rows : Belt × Turnings × Readings × Withdrawing × Inheriting
+rows : Belt × Turnings × Readings × Withdrawing × Inheriting × StandIns
 unfolding
     u16At u32At choose andThen
     sized times items byte u16 u32 byteIn rest list
@@ -29,7 +29,7 @@ unfolding
     withdrawal withdrawalItem readWithdrawals linked linkItem readHierarchy
     daysOfYears daysOfMonths dateOf yearAfter lower
     sided readSlices decisionOf decision
-rows = (refl, refl, refl, refl, (refl, refl))
+rows = (refl, refl, refl, refl, (refl, refl), refl)
 
 pub belt : Belt
 belt = rows .0
@@ -45,6 +45,9 @@ withdrawing = rows .3
 
 pub inheriting : Inheriting
 inheriting = rows .4
+
+pub standIns : StandIns
+standIns = rows .5
 
 -- ---- demand 3 on the belt
 

@@ -103,7 +103,7 @@ module _ (policy hierarchy : List ℕ) (R : Read) (r : ReadAs policy (R .policy)
   rule-ground (canSays {a} {b} {k} {f}) h =
       let g = h (said a unlimited (canSay b k f)) (List·Memᴰ·head refl) in
       (g .0, g .1, g .2 .1)
-  rule-ground (actsAs {a} {d} {b} {c} f) h =
+  rule-ground (actsAs {a} {d} {b} {c} f v) h =
       let g = h (said a d (flat b canActAs (c ∷ []))) (List·Memᴰ·head refl) in
       let k = h (said a d (about c f)) (List·Memᴰ·tail (List·Memᴰ·head refl)) in
       (g .0, g .1, about-ground cs vs b c f (g .2 .0) (k .2))

@@ -5,11 +5,12 @@ use mathlib.Core.List.{List, [], _∷_, _++_, map, List·Memᴰ, List·Memᴰ·h
 use Prim.Native.Nat.{ℕ, zero, suc, _<_}
 use native.Mathlib.Omega.{arith}
 use lib.ListN.{length, getD}
-use lib.Dec.{eqb, eqb-refl}
+use lib.Dec.{T, eqb, eqb-refl}
 use Rattle.model.specs.Limits.{principal, unlimited, unbound}
 use Rattle.model.specs.Lists.{each}
 use Rattle.model.specs.Syntax.{Expr, con, var, today, Fact, flat, canSay, mapFact, subject, about, Constant, Verb, Assertion, Link, World, Said, said}
 use Rattle.model.specs.Kinds.{kindOf, variables, places, pair, paramKinds}
+use Rattle.model.specs.Versions.{carries, namesActors}
 use Rattle.model.specs.Values.{bound, choices, bindings, bindingsOf, kindsOf}
 use Rattle.model.specs.Closure.{by, Within}
 use Rattle.model.specs.Hierarchy.{Covers, phrase, nested}
@@ -17,7 +18,7 @@ use Rattle.model.specs.Rules.{Rule, cond, canSays, actsAs, covers, bodyO
 use Rattle.model.specs.Reach.{Joins, asks, names, Reach, namedBy, joining}
 use Rattle.model.specs.Reached.{issuedIn, reach, counting}
 use Rattle.model.specs.Theorems.{who}
-use Rattle.model.proofs.ListFacts.{member-in, keep-of, keep-in}
+use Rattle.model.proofs.ListFacts.{if-in, member-in, keep-of, keep-in}
 use Rattle.model.proofs.ClosureFacts.{within-more}
 use Rattle.model.proofs.BindingFacts.{bindings-of, at-variable}
 use Rattle.model.proofs.StepFacts.{subject-about, rule-mono}
@@ -43,11 +44,17 @@ Placed (con c) = Unit {0}
 Placed (var v) = v < 8
 Placed today = ⊥
 
--- a fact that brings in its subject
-abbrev Vouches : Fact ℕ → Type 0
-Vouches (flat s zero ps) = Unit {0}
-Vouches (flat s (suc v) ps) = ⊥
-Vouches (canSay s d f) = Unit {0}
+-- a fact that brings in its subject, in a version
+abbrev Vouches : ℕ → Fact ℕ → Type 0
+Vouches version (flat s zero ps) = T (namesActors version)
+Vouches version (flat s (suc v) ps) = ⊥
+Vouches version (canSay s d f) = Unit {0}
+
+-- where acting as another makes someone vouch, the version has actors in the reach: it carries no more than it brings in
+vouching-joins : (version b : ℕ) (f : Fact ℕ) → T (carries version f) → Vouches version (about b f) → T (namesActors version)
+vouching-joins version b (flat s zero ps) t v = v
+vouching-joins version b (flat s (suc n) ps) t v = absurd v
+vouching-joins version b (canSay s d f) t v = t
 
 abbrev what : Said → Fact ℕ
 what (said a d f) = f
@@ -57,10 +64,10 @@ covers-subject : {H : List Link} {f g : Fact ℕ} → Covers H f g → subject f
 covers-subject (phrase r) = refl
 covers-subject (nested c) = refl
 
-covers-vouches : {H : List Link} {f g : Fact ℕ} → Covers H f g → Vouches g → Vouches f
-covers-vouches (phrase {v = zero} r) v = tt
-covers-vouches (phrase {v = suc n} r) v = v
-covers-vouches (nested c) v = tt
+covers-vouches : {H : List Link} {f g : Fact ℕ} (version : ℕ) → Covers H f g → Vouches version g → Vouches version f
+covers-vouches version (phrase {v = zero} r) v = v
+covers-vouches version (phrase {v = suc n} r) v = v
+covers-vouches version (nested c) v = tt
 
 module _ (W : World) (asked : List ℕ) (𝒜 : List Assertion) (placed : (a : Assertion) → List·Memᴰ a 𝒜 → Placed (subject (a .head))) where
   abbrev In : ℕ → Type 0
@@ -80,24 +87,27 @@ module _ (W : World) (asked : List ℕ) (𝒜 : List Assertion) (placed : (a : A
       subst (λ (x : Expr). kindOf ((principal, x) ∷ (places vs f ++ r)) v ≡ principal) (sym e) (kind-here (places vs f ++ r) principal v)
 
   -- the head's ground subject, where it is one that joins, is among those that the assertion brings in
-  head-brings : (a : Assertion) (θ : List ℕ) (f : Fact Expr) → List·Memᴰ (bound θ (subject f)) (joining W (subject f)) → Vouches (mapFact (bound θ) f)
+  head-brings : (a : Assertion) (θ : List ℕ) (f : Fact Expr) → List·Memᴰ (bound θ (subject f)) (joining W (subject f))
+      → Vouches (W .version) (mapFact (bound θ) f)
       → List·Memᴰ (subject (mapFact (bound θ) f)) (namedBy W f)
-  head-brings a θ (flat s zero ps) m v = m
+  head-brings a θ (flat s zero ps) m v = if-in (namesActors (W .version)) v m
   head-brings a θ (flat s (suc n) ps) m v = absurd v
   head-brings a θ (canSay s d f) m v = m
 
-  vouch-rule : {ps : List Said} {x : Said} → Rule W 𝒜 ps x → ((y : Said) → List·Memᴰ y ps → In (who y) → Vouches (what y) → In (subject (what y)))
-      → In (who x) → Vouches (what x) → In (subject (what x))
+  vouch-rule : {ps : List Said} {x : Said} → Rule W 𝒜 ps x → ((y : Said) → List·Memᴰ y ps → In (who y) → Vouches (W .version) (what y) → In (subject (what y)))
+      → In (who x) → Vouches (W .version) (what x) → In (subject (what x))
   vouch-rule (cond {a} {d} {θ} m n o t) ih r v =
       let kinds = kind-subject (W .verbs) (a .head) (each (a .body) (places (W .verbs))) in
       let subjects = joining-in a θ (subject (a .head)) o (placed a m) kinds in
       by (names m (head-brings a θ (a .head) subjects v)) (λ y e. subst In (sym (List·Memᴰ·eq-of-singleton e)) r)
   vouch-rule (canSays {a} {b} {k} {f}) ih r v =
       ih (said b k f) (List·Memᴰ·tail (List·Memᴰ·head refl)) (ih (said a unlimited (canSay b k f)) (List·Memᴰ·head refl) r tt) v
-  vouch-rule (actsAs {a} {d} {b} {c} f) ih r v = subst In (sym (subject-about b f)) (ih (said a d (flat b 0 (c ∷ []))) (List·Memᴰ·head refl) r tt)
-  vouch-rule (covers {a} {d} {f} {g} c) ih r v = subst In (covers-subject c) (ih (said a d f) (List·Memᴰ·head refl) r (covers-vouches c v))
+  vouch-rule (actsAs {a} {d} {b} {c} f t) ih r v =
+      let joined = ih (said a d (flat b 0 (c ∷ []))) (List·Memᴰ·head refl) r (vouching-joins (W .version) b f t v) in
+      subst In (sym (subject-about b f)) joined
+  vouch-rule (covers {a} {d} {f} {g} c) ih r v = subst In (covers-subject c) (ih (said a d f) (List·Memᴰ·head refl) r (covers-vouches (W .version) c v))
 
-  vouch : (n : ℕ) (x : Said) → Within (Rule W 𝒜) n x → In (who x) → Vouches (what x) → In (subject (what x))
+  vouch : (n : ℕ) (x : Said) → Within (Rule W 𝒜) n x → In (who x) → Vouches (W .version) (what x) → In (subject (what x))
   vouch zero x w r v = absurd w
   vouch (suc n) x (inl w) r v = vouch n x w r v
   vouch (suc n) x (inr u) r v = vouch-rule (u .1) (λ y e. vouch n y (u .2 y e)) r v
@@ -105,7 +115,7 @@ module _ (W : World) (asked : List ℕ) (𝒜 : List Assertion) (placed : (a : A
   abbrev counted : List Assertion
   counted = counting W 𝒜 asked
 
-  inside-rule : {ps : List Said} {x : Said} → Rule W 𝒜 ps x → ((y : Said) → List·Memᴰ y ps → In (who y) → Vouches (what y) → In (subject (what y)))
+  inside-rule : {ps : List Said} {x : Said} → Rule W 𝒜 ps x → ((y : Said) → List·Memᴰ y ps → In (who y) → Vouches (W .version) (what y) → In (subject (what y)))
       → In (who x) → Rule W counted ps x × ((y : Said) → List·Memᴰ y ps → In (who y))
   inside-rule (cond {a} {d} {θ} m n o t) ih r = (
     cond (keep-in (issuedIn (reach W 𝒜 asked)) m (member-in (reach-in W 𝒜 asked (a .issuer) r))) n o t,
@@ -120,8 +130,8 @@ module _ (W : World) (asked : List ℕ) (𝒜 : List Assertion) (placed : (a : A
         subst (λ (z : Said). In (who z)) (sym (List·Memᴰ·eq-of-singleton n)) who-says)
         (List·Memᴰ·cases-cons e),
   )
-  inside-rule (actsAs {a} {d} {b} {c} f) ih r = (
-    actsAs f,
+  inside-rule (actsAs {a} {d} {b} {c} f t) ih r = (
+    actsAs f t,
     λ y e. ⊎-elim
         (λ (q : y ≡ said a d (flat b 0 (c ∷ []))). subst (λ (z : Said). In (who z)) (sym q) r)
         (λ (n : List·Memᴰ y (said a d (about c f) ∷ [])). subst (λ (z : Said). In (who z)) (sym (List·Memᴰ·eq-of-singleton n)) r)

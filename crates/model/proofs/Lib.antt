@@ -14,7 +14,9 @@ pub mod RecordFacts
 pub mod OutcomeFacts
 pub mod Outside
 pub mod Inside
+pub mod WorldFacts
 pub mod Growth
+pub mod VersionFacts
 pub mod WithdrawalFacts
 pub mod KindFacts
 pub mod ReadFacts

@@ -3,7 +3,7 @@ use mathlib.Core.Path.{_≡_, refl, sym, ap, ap₂, subst, _∙_}
 use mathlib.Core.Logic.{_↔_, _⊎_, inl, inr, ⊎-elim}
 use mathlib.Core.List.{List, [], _∷_, _++_, map, List·Memᴰ, List·Memᴰ·head, List·Memᴰ·tail, List·Memᴰ·not-nil, List·Memᴰ·cases-cons, List·Memᴰ·append-cases}
 use mathlib.Core.List.{List·Memᴰ·eq-of-singleton, Memᴰ·append-left, Memᴰ·append-right, Memᴰ·cast, Memᴰ·map}
-use mathlib.Core.Bool.{Bool, true, false, _&&_, _||_, not}
+use mathlib.Core.Bool.{Bool, true, false, cond, _&&_, _||_, not}
 use Prim.Native.Nat.{ℕ, zero, suc, _≤_, zero-le, suc-le-suc}
 use lib.ListN.{length}
 use lib.Dec.{T, eqb, eqb→eq, eqb-refl}
@@ -53,6 +53,14 @@ module _ {A : Type 0} where
   pub all-in : (p : A → Bool) (xs : List A) → ((x : A) → List·Memᴰ x xs → T (p x)) → T (all p xs)
   all-in p [] h = tt
   all-in p (x ∷ xs) h = and-in (p x) _ (h x (List·Memᴰ·head refl)) (all-in p xs (λ y m. h y (List·Memᴰ·tail m)))
+
+  pub if-of : (b : Bool) {x : A} {xs : List A} → List·Memᴰ x (cond b xs []) → T b × List·Memᴰ x xs
+  if-of true m = (tt, m)
+  if-of false m = absurd (List·Memᴰ·not-nil m)
+
+  pub if-in : (b : Bool) {x : A} {xs : List A} → T b → List·Memᴰ x xs → List·Memᴰ x (cond b xs [])
+  if-in true t m = m
+  if-in false t m = absurd t
 
   pub only-of : (b : Bool) {x y : A} → List·Memᴰ y (only b x) → T b × (y ≡ x)
   only-of true m = (tt, List·Memᴰ·eq-of-singleton m)

@@ -8,7 +8,7 @@ use native.Mathlib.Omega.{arith}
 use lib.ListN.{length}
 use lib.Dec.{eqb, ltb, leb}
 use borrow.Author.Tests.{lt-ltb, le-ltb, le-leb, lt-leb}
-use Rattle.model.specs.Limits.{maxConstants, maxVerbs, maxAssertions, version, lengthAt, headerBytes}
+use Rattle.model.specs.Limits.{maxConstants, maxVerbs, maxAssertions, policyVersions, lengthAt, headerBytes}
 use Rattle.model.specs.Bytes.{byteAt, u16At, u32At, choose, both, Reading, got, refused, andThen}
 use Rattle.model.specs.Policies.{Item, contents, headed, versionThere, lengthRight, ended, itemsFrom, listAt, Accepted, assertionsFrom}
 use Rattle.model.specs.Policies.{verbsFrom, constantsFrom, computedPolicy, readPolicy}
@@ -103,7 +103,7 @@ module _ (s : List ℕ) where
   -- the reader in one walk is the computed one
   pub policy-is : readPolicy s ≡ computedPolicy s
   unfolding readPolicy computedPolicy constantsFrom verbsFrom assertionsFrom
-  policy-is = slice-is version s _ (constantsFrom s)
+  policy-is = slice-is policyVersions s _ (constantsFrom s)
       (then-same _ _ (list-is s (constantItem s) (policies.constantItem s) (λ earlier p. constantItem-is s p earlier) 1 maxConstants 0 headerBytes)
       (λ cs p. then-same _ _ (list-is s (verbItem s) (policies.verbItem s) (λ earlier p. verbItem-is s p earlier) 0 maxVerbs 0 p)
       (λ vs p. then-same _ _ (list-is s (assertionItem s (contents cs) (contents vs)) (policies.assertionItem (contents cs) (contents vs) s)

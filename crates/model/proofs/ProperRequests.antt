@@ -7,7 +7,7 @@ use Prim.Native.Nat.{ℕ, zero, suc, _+_, _≤_}
 use native.Mathlib.Omega.{arith}
 use lib.ListN.{length, getD}
 use lib.Dec.{T, leb, eqb→eq, leb→le}
-use Rattle.model.specs.Limits.{principal, quantity, version}
+use Rattle.model.specs.Limits.{principal, quantity, policyVersions}
 use Rattle.model.specs.Lists.{all, each}
 use Rattle.model.specs.Syntax.{Expr, con, var, today, Fact, flat, canSay, Constant, Verb, Policy, Node, Nodes, says, test, allOf, anyOf, non}
 use Rattle.model.specs.Syntax.{exists, end, more, varsOf, varsIn}
@@ -169,7 +169,7 @@ accepted-kinded : (s : List ℕ) (A : Accepted) (e : ℕ) → readPolicy s ≡ g
 unfolding computedPolicy constantsFrom verbsFrom assertionsFrom
 accepted-kinded s A e r zero = tt
 accepted-kinded s A e r (suc v) =
-    let c = andThen-got _ _ A e (headed-got version s _ A e (sym (policy-is s) ∙ r)) in
+    let c = andThen-got _ _ A e (headed-got policyVersions s _ A e (sym (policy-is s) ∙ r)) in
     let d = andThen-got _ _ A e (c .3) in
     let a = andThen-got _ _ A e (d .3) in
     let q = ended-got s _ A (a .1) e (a .3) in

@@ -8,13 +8,13 @@ use native.Mathlib.Omega.{arith}
 use lib.ListN.{length, getD, length-map, length-append}
 use lib.Dec.{T, eqb, ltb, eqb→eq}
 use borrow.Author.Tests.{ltb-false}
-use Rattle.model.specs.Limits.{version, principal, maxConstants, headerBytes}
+use Rattle.model.specs.Limits.{policyVersions, principal, maxConstants, headerBytes}
 use Rattle.model.specs.Lists.{all}
 use Rattle.model.specs.Syntax.{Expr, con, var, today, Fact, flat, canSay, subject, Assertion, Constant, Verb, Policy}
 use Rattle.model.specs.Kinds.{Demands, kindAt, places, demandsOf, inPlace, comparable, meets, kindsFor, choicesOf, fitting, fitsAssertion}
 use Rattle.model.specs.Kinds.{variables}
 use Rattle.model.specs.Safety.{safeAssertion}
-use Rattle.model.specs.Bytes.{u16At, choose, Reading, got, refused, andThen}
+use Rattle.model.specs.Bytes.{byteAt, u16At, choose, Reading, got, refused, andThen}
 use Rattle.model.specs.Readings.{arityOf, exprsAt, levelsAt, factAt, assertionAt}
 use Rattle.model.specs.Forms.{Form, ends, broken, noVerb, assertionForm}
 use Rattle.model.specs.Policies.{Item, contents, headed, ended, itemsFrom, listAt, constantItem, judged, assertionBy, assertionItem, Accepted}
@@ -151,7 +151,7 @@ pub accepted-fine : (s : List ℕ) (A : Accepted) (e : ℕ) → readPolicy s ≡
     → (a : Assertion) → List·Memᴰ a (policyOf A .assertions) → Fine (policyOf A .constants) (policyOf A .verbs) a
 unfolding computedPolicy constantsFrom verbsFrom assertionsFrom
 accepted-fine s A e r =
-    let c = andThen-got _ _ A e (headed-got version s _ A e (sym (policy-is s) ∙ r)) in
+    let c = andThen-got _ _ A e (headed-got policyVersions s _ A e (sym (policy-is s) ∙ r)) in
     let v = andThen-got _ _ A e (c .3) in
     let a = andThen-got _ _ A e (v .3) in
     let q = ended-got s _ A (a .1) e (a .3) in
@@ -163,11 +163,20 @@ pub policy-fine : (policy : List ℕ) (P : Policy) → ReadAs policy P → (a : 
 policy-fine policy P h = subst (λ (P : Policy). (a : Assertion) → List·Memᴰ a (P .assertions) → Fine (P .constants) (P .verbs) a) (h .3)
     (accepted-fine policy (h .0) (h .1) (h .2))
 
+-- the version is the first byte
+pub accepted-version : (s : List ℕ) (A : Accepted) (e : ℕ) → readPolicy s ≡ got A e → byteAt s 0 ≡ A .version
+unfolding computedPolicy constantsFrom verbsFrom assertionsFrom
+accepted-version s A e r =
+    let c = andThen-got _ _ A e (headed-got policyVersions s _ A e (sym (policy-is s) ∙ r)) in
+    let v = andThen-got _ _ A e (c .3) in
+    let a = andThen-got _ _ A e (v .3) in
+    ap (λ (B : Accepted). B .version) (ended-got s _ A (a .1) e (a .3))
+
 -- "Constants (1 to 255 ..)"
 pub accepted-count : (s : List ℕ) (A : Accepted) (e : ℕ) → readPolicy s ≡ got A e → length (policyOf A .constants) ≤ 255
 unfolding computedPolicy constantsFrom verbsFrom assertionsFrom
 accepted-count s A e r =
-    let c = andThen-got _ _ A e (headed-got version s _ A e (sym (policy-is s) ∙ r)) in
+    let c = andThen-got _ _ A e (headed-got policyVersions s _ A e (sym (policy-is s) ∙ r)) in
     let v = andThen-got _ _ A e (c .3) in
     let a = andThen-got _ _ A e (v .3) in
     let q = ended-got s _ A (a .1) e (a .3) in

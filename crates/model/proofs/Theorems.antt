@@ -27,6 +27,7 @@ use Rattle.model.specs.Decision.{Slices, Lent, allow, deny, refusal, Rep
 use Rattle.model.specs.Theorems as Q
 use Rattle.model.specs.Theorems.{Inputs, InputsBySlice, ReadAs, AskedAs, Adds, Longer, withPolicy, withWithdrawals, withoutEntries}
 use Rattle.model.specs.Theorems.{IsDecision, ListedIn, answerIn, MeantBy}
+use Rattle.model.specs.Theorems.{DerivableIn, AnswerIn, readInVersion}
 use Rattle.model.proofs.ListFacts.{and-of, keep-of, keep-in, member-of, member-in}
 use Rattle.model.proofs.ClosureFacts.{derives↔within, derives-more, within-more}
 use Rattle.model.proofs.RoundFacts as S
@@ -39,6 +40,7 @@ use Rattle.model.proofs.OutcomeFacts.{clash, meant-unique, meant, same-
 use Rattle.model.proofs.Outside.{counting-same}
 use Rattle.model.proofs.Inside.{inside}
 use Rattle.model.proofs.Growth.{holds-more, rule-grows}
+use Rattle.model.proofs.VersionFacts.{within-first, reach-in-first, rule-in-first}
 use Rattle.model.proofs.WithdrawalFacts.{left-in, counted-in, left-all, adds-kept, serials-aside}
 use Rattle.model.proofs.ReadFacts.{accepted-count, subject-placed, policy-fine}
 use Rattle.model.proofs.KindFacts.{fitting↔, one-kind}
@@ -176,8 +178,8 @@ computedReach W 𝒜 asked = (
 
 -- ---- added assertions
 
--- what is read with another policy in the first one's place: where constants and verbs are the same, so are the world, the request, the withdrawals and the
--- hierarchy
+-- what is read with another policy in the first one's place: where constants and verbs are the same, so are the request, the withdrawals and the hierarchy, and
+-- with the version the world
 abbrev another : Read → Policy → Read
 another R L = read L (R .request) (R .withdrawals) (R .hierarchy)
 
@@ -192,8 +194,8 @@ module _ (R : Read) (L : Policy) (cs : L .constants ≡ R .policy .constants) (v
         rankedAs = (k .rankedAs .0, rw (cs, vs) (k .rankedAs .1));
       })
 
-  same-world : worldIn (another R L) ≡ worldIn R
-  same-world = λ i. record { constants = cs i; verbs = vs i; today = R .request .today; hierarchy = R .hierarchy }
+  same-world : L .version ≡ R .policy .version → worldIn (another R L) ≡ worldIn R
+  same-world v = λ i. record { version = v i; constants = cs i; verbs = vs i; today = R .request .today; hierarchy = R .hierarchy }
 
 -- reports tell nothing of the slices
 same-buffers : (o : Outcome) (l : Lent) (s : Slices)
@@ -207,7 +209,7 @@ module _ {X : Assertion → Type 0} (R : Read) (L : Policy) (x : Longer X (R .po
   longer-inputs l longer h a = with-policy R L (x .constants) (x .verbs) l longer h a
 
   longer-world : worldIn (another R L) ≡ worldIn R
-  longer-world = same-world R L (x .constants) (x .verbs)
+  longer-world = same-world R L (x .constants) (x .verbs) (x .version)
 
   -- what is left of the longer policy's list, and which of it count
   abbrev longerLeft : List Assertion
@@ -263,29 +265,67 @@ module _ (W : World) (𝒜 : List Assertion) (n : Node) (c r : ℕ) (l : Lent) w
       at : (i : ℕ) → i < length A → answerIn (atFront (l .answerBuffer) (answersBytes A)) i ≡ getD A i []
       at i k = answer-at A _ (λ η m. binding-length W n η (g .only η m .0)) i k
 
+-- two calls that get a decision: an answer of the one that is one of the other is listed there too
+module _ (l l′ : Lent) (R R′ : Read) (h : Inputs (l .slices) R) (h′ : Inputs (l′ .slices) R′) where
+  listed-more : IsDecision (decision l .verdict) → IsDecision (decision l′ .verdict) → (θ : List ℕ) → (AnswerIn R θ → AnswerIn R′ θ)
+      → ListedIn (decision l) θ → ListedIn (decision l′) θ
+  listed-more d d′ θ more k =
+      let e = reports l R h in
+      let e′ = reports l′ R′ h′ in
+      let here = listing l R h (subst (λ (ρ : Report). IsDecision (ρ .verdict)) e d) in
+      let there = listing l′ R′ h′ (subst (λ (ρ : Report). IsDecision (ρ .verdict)) e′ d′) in
+      subst (λ (ρ : Report). ListedIn ρ θ) (sym e′) (there .1 (more (here .0 (subst (λ (ρ : Report). ListedIn ρ θ) e k))))
+    where
+      listing : (l : Lent) (R : Read) → Inputs (l .slices) R → IsDecision (reported (decide R (capacity (l .factBuffer)) (room (l .answerBuffer))) l .verdict)
+          → ListedIn (reported (decide R (capacity (l .factBuffer)) (room (l .answerBuffer))) l) θ ↔ AnswerIn R θ
+      listing l R h d =
+          let c = capacity (l .factBuffer) in
+          let r = room (l .answerBuffer) in
+          listed↔ (worldIn R) (countedIn R) (R .request .node) c r l (meant-by (l .slices) R h c r) d θ
+
 pub growing : Q.Growing
-growing l longer R L h a x p d d′ θ k =
-    let W = worldIn R in
-    let n = R .request .node in
-    let asked = issuers n W in
-    let R′ = another R L in
-    let ℬ = counting W (longerLeft R L x) asked in
-    let i = longer-inputs R L x l longer h a in
-    let c = capacity (l .factBuffer) in
-    let r = room (l .answerBuffer) in
-    let e = reports l R h in
-    let e′ = reports (withPolicy longer l) R′ i in
-    let now = listed↔ (worldIn R′) (countedIn R′) n c r (withPolicy longer l) (meant-by (withPolicy longer l .slices) R′ i c r)
-    (subst (λ (ρ : Report). IsDecision (ρ .verdict)) e′ d′) θ in
-    let then = listed↔ W (countedIn R) n c r l (meant-by (l .slices) R h c r) (subst (λ (ρ : Report). IsDecision (ρ .verdict)) e d) θ in
-    let s = then .0 (subst (λ (ρ : Report). ListedIn ρ θ) e k) in
-    let s′ : Satisfies W ℬ n θ = (
+growing l longer R L h a x p d d′ θ k = listed-more l (withPolicy longer l) R (another R L) h (longer-inputs R L x l longer h a) d d′ θ more k
+  where
+    W : World
+    W = worldIn R
+
+    n : Node
+    n = R .request .node
+
+    -- by what counts of the longer list
+    more : AnswerIn R θ → AnswerIn (another R L) θ
+    more s = subst₂ (λ (W : World) (𝒜 : List Assertion). Satisfies W 𝒜 n θ) (sym (longer-world R L x)) (sym (longer-counts R L x)) (
       s .0,
-      holds-more W (kindsIn W n) (Derives (Rule W (countedIn R))) (Derives (Rule W ℬ))
-          (λ y z. derives-more (rule-grows W asked (left-adds R L x)) z) n θ p (s .1),
-    ) in
-    subst (λ (ρ : Report). ListedIn ρ θ) (sym e′)
-    (now .1 (subst₂ (λ (W : World) (𝒜 : List Assertion). Satisfies W 𝒜 n θ) (sym (longer-world R L x)) (sym (longer-counts R L x)) s′))
+      holds-more W W refl refl (kindsIn W n) (Derives (Rule W (countedIn R))) (Derives (Rule W (counting W (longerLeft R L x) (issuers n W))))
+          (λ y z. derives-more (rule-grows W (issuers n W) (left-adds R L x)) z) n θ p (s .1),
+    )
+
+-- ---- versions
+
+pub noMoreByVersion2 : Q.NoMoreByVersion2
+noMoreByVersion2 W 𝒜 n x w = within-first W 𝒜 n x w
+
+pub noMoreInReach : Q.NoMoreInReach
+noMoreInReach R = record { reach = reach-in-first R; within = λ n x w. within-more (rule-in-first R) n x w }
+
+pub growingByVersion : Q.GrowingByVersion
+growingByVersion l other R h a p d d′ θ k = listed-more l (withPolicy other l) R₂ R₁ h (with-policy R₂ (R₁ .policy) refl refl l other h a) d d′ θ more k
+  where
+    R₁ : Read
+    R₁ = readInVersion 1 R
+
+    R₂ : Read
+    R₂ = readInVersion 2 R
+
+    n : Node
+    n = R .request .node
+
+    more : AnswerIn R₂ θ → AnswerIn R₁ θ
+    more s = (
+      s .0,
+      holds-more (worldIn R₂) (worldIn R₁) refl refl (kindsIn (worldIn R) n) (DerivableIn R₂) (DerivableIn R₁) (λ y z. derives-more (rule-in-first R) z) n θ p
+          (s .1),
+    )
 
 -- ---- kinds and bindings
 
@@ -383,7 +423,7 @@ withdrawnIsAbsent l other R L h a e =
     inputs = nothingWithdrawn (l′ .slices) L (R .request) (R .hierarchy) refl a (others .askedAs) (others .rankedAs) .0
 
     world : worldIn R′ ≡ worldIn R
-    world = same-world R L cs vs
+    world = same-world R L cs vs (ap (λ (P : Policy). P .version) e)
 
     lefts : leftIn R′ ≡ leftIn R
     lefts = left-all (worldIn R′) (L .assertions) ∙ ap (λ (P : Policy). P .assertions) e
@@ -423,7 +463,7 @@ serialsAside l other R L h a none e =
 
     same : decide (another R L) c r ≡ decide R c r
     same =
-        (λ i. by (same-world R L cs vs i) (none i) (L .assertions))
+        (λ i. by (same-world R L cs vs (ap (λ (P : Policy). P .version) e) i) (none i) (L .assertions))
         ∙ (all-left (L .assertions)
         ∙ (serials-aside W (L .assertions) (R .policy .assertions) (issuers n W) n c r (ap (λ (P : Policy). P .assertions) e)
         ∙ (sym (all-left (R .policy .assertions)) ∙ (λ i. by W (sym none i) (R .policy .assertions)))))

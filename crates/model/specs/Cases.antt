@@ -1,4 +1,4 @@
--- Worked cases on bytes: document 01's belt cases, its four wrong turnings, some of the ways in which it is read, and requests 02 and 05.
+-- Worked cases on bytes: document 01's belt cases, its four wrong turnings, some of the ways in which it is read, and requests 02, 05 and 06.
 use mathlib.Core.Path.{_≡_}
 use mathlib.Core.List.{List, [], _∷_, _++_, map}
 use Prim.Native.Nat.{ℕ, suc, _/_, _%_}
@@ -223,6 +223,9 @@ countsOf r = record { verdict = r .verdict; facts = r .facts; rounds = r .rounds
 abbrev counts : Verdict → ℕ → ℕ → ℕ → Counts
 counts v f r a = record { verdict = v; facts = f; rounds = r; answers = a }
 
+abbrev pub AgreeInCounts : List (Counts × Counts) → Type 0
+AgreeInCounts rows = map (λ (r : Counts × Counts). r .0) rows ≡ map (λ (r : Counts × Counts). r .1) rows
+
 abbrev pub turningRows : List (Counts × Counts)
 turningRows =
     -- "Letting a depth 0 quote lean on another's quote: North's contractor then vouches to Works."
@@ -239,14 +242,14 @@ turningRows =
     ∷ []
 
 abbrev pub Turnings : Type 0
-Turnings = map (λ (r : Counts × Counts). r .0) turningRows ≡ map (λ (r : Counts × Counts). r .1) turningRows
+Turnings = AgreeInCounts turningRows
 
 -- ---- how document 01 is read: each refusal number, and its place
 
 abbrev pub readingRows : List Row
 readingRows =
     -- version and length wrong
-    (call (set (set P 0 2) 4 3) Q 160 8, refuses 1 1 0 160 8)
+    (call (set (set P 0 3) 4 3) Q 160 8, refuses 1 1 0 160 8)
     -- a policy of one byte
     ∷ (call (1 ∷ []) Q 160 8, refuses 2 1 1 160 8)
     -- a fourth assertion counted and not there: the place where it would stand
@@ -463,6 +466,40 @@ hierarchyRows =
 
 abbrev pub Inheriting : Type 0
 Inheriting = (map (λ (r : Counts × Counts). r .0) inheritingRows ≡ map (λ (r : Counts × Counts). r .1) inheritingRows) × Agree hierarchyRows
+
+-- ---- request 06: "Stand-ins may order but not vouch." The same policy in versions 1 and 2
+
+abbrev inBoth : List (List ℕ) → List ℕ → Counts → Counts → List (Counts × Counts)
+inBoth statements asked first second =
+    (countsOf (call (policy statements) asked 320 8), first) ∷ (countsOf (call (set (policy statements) 0 2) asked 320 8), second) ∷ []
+
+abbrev ottoActsAsNorth : List ℕ
+ottoActsAsNorth = statement works (canActAs otto north) []
+
+abbrev pub standInRows : List (Counts × Counts)
+standInRows =
+    -- a stand-in may order: what North may, Otto may
+    inBoth (ottoActsAsNorth ∷ statement works (mayOrder north) [] ∷ []) Q (counts allow 6 2 1) (counts allow 6 2 1)
+    -- but not vouch: Works listens to North, and in version 2 not to Otto, who is out of reach
+    ++ inBoth (i ∷ ii ∷ ottoActsAsNorth ∷ statement otto (isFitter otto) [] ∷ []) Q (counts allow 18 4 1) (counts deny 8 1 0)
+    -- nor where he is in the reach, as one who is asked
+    ++ inBoth (i ∷ ii ∷ ottoActsAsNorth ∷ statement otto (isFitter otto) [] ∷ []) (request 0 (3 ∷ 2 ∷ asks ++ says otto (isFitter otto)))
+    (counts allow 18 4 1) (counts deny 10 1 0)
+    -- can act as is carried on: Otto can act as Works
+    ++ inBoth (ottoActsAsNorth ∷ statement works (canActAs north works) [] ∷ statement works (mayOrder works) [] ∷ []) Q
+    (counts allow 12 3 1) (counts allow 12 3 1)
+    -- where nobody acts as another the versions give the same
+    ++ inBoth (i ∷ ii ∷ iii ∷ []) Q (counts allow 10 3 1) (counts allow 10 3 1)
+    -- "Refusal 1 on side 1 now means absent or neither 1 nor 2"; requests and withdrawals keep their version
+    ++ (countsOf (call (set P 0 3) Q 160 8), counts (refusal 1 1 0) 0 0 0)
+    ∷ (countsOf (call (set P 0 0) Q 160 8), counts (refusal 1 1 0) 0 0 0)
+    ∷ (countsOf (call [] Q 160 8), counts (refusal 1 1 0) 0 0 0)
+    ∷ (countsOf (call (set P 0 2) (set Q 0 2) 160 8), counts (refusal 1 2 0) 0 0 0)
+    ∷ (countsOf (callWith (set withoutEntries 0 2) (set P 0 2) Q 160 8), counts (refusal 1 3 0) 0 0 0)
+    ∷ []
+
+abbrev pub StandIns : Type 0
+StandIns = AgreeInCounts standInRows
 
 -- ---- demand 3 on the belt: "P plus 'Otto says Otto may-order encoder'" is a longer policy whose added issuer is outside the reach
 

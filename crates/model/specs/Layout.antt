@@ -200,9 +200,10 @@ module _ (s : List ℕ) where
       (r 0 (length s) 5)
       (refused 2 1)) (refused 1 0)
 
--- "Constants (1 to 255 ..) .. Verbs (0 to 64 ..) .. Assertions (0 to 256)"; "for leftovers, the first of them"
+-- "Constants (1 to 255 ..) .. Verbs (0 to 64 ..) .. Assertions (0 to 256)"; "for leftovers, the first of them".
+-- Request 06: "Version 2 has the same layout"; "Refusal 1 on side 1 now means absent or neither 1 nor 2."
 unfoldable pub readPolicy : List ℕ → Reading Accepted
-readPolicy s = slice s 1 do
+readPolicy s = slice s 2 do
   cs ← list s 1 255 (constantItem s)
   vs ← list s 0 64 (verbItem s)
   𝒜 ← list s 0 256 (assertionItem s (contents cs) (contents vs))

@@ -10,6 +10,7 @@ pub mod Values
 pub mod Binding
 -- What is true: rules, reach, requests, safety, and the outcome that is meant.
 pub mod Closure
+pub mod Versions
 pub mod Hierarchy
 pub mod Rules
 pub mod Reach

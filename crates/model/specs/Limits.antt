@@ -106,9 +106,12 @@ firstVariable = 0x8000
 abbrev pub todayCode : ℕ
 todayCode = 0x4000
 
--- ---- "Byte 0: version, 1. Bytes 1 to 4: count of all bytes after them."
+-- ---- "Byte 0: version, 1. Bytes 1 to 4: count of all bytes after them."; of a policy, with request 06, 1 and 2
 abbrev pub version : ℕ
 version = 1
+
+abbrev pub policyVersions : ℕ
+policyVersions = 2
 
 abbrev pub lengthAt : ℕ
 lengthAt = 1

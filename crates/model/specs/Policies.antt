@@ -4,7 +4,7 @@ use mathlib.Core.List.{List, [], _∷_, _++_, map}
 use mathlib.Core.Bool.{Bool, _&&_}
 use lib.ListN.{length}
 use lib.Dec.{eqb, ltb, leb}
-use Rattle.model.specs.Limits.{maxConstants, maxVerbs, maxAssertions, version, lengthAt, headerBytes}
+use Rattle.model.specs.Limits.{maxConstants, maxVerbs, maxAssertions, policyVersions, lengthAt, headerBytes}
 use Rattle.model.specs.Lists.{any}
 use Rattle.model.specs.Syntax.{Assertion, Constant, Verb, Policy}
 use Rattle.model.specs.Kinds.{fitsAssertion}
@@ -98,4 +98,4 @@ unfoldable pub constantsFrom : List ℕ → Reading Accepted
 constantsFrom s = andThen (listAt s 1 maxConstants (constantItem s) headerBytes) (λ cs e. verbsFrom s cs e)
 
 unfoldable pub computedPolicy : List ℕ → Reading Accepted
-computedPolicy s = headed version s (constantsFrom s)
+computedPolicy s = headed policyVersions s (constantsFrom s)

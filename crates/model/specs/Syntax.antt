@@ -83,6 +83,7 @@ pub data Said : Type 0 where
 
 -- what gives an assertion its meaning: the policy without its assertions, today, and the hierarchy
 pub record World : Type 0 where
+  pub version : ℕ
   pub constants : List Constant
   pub verbs : List Verb
   pub today : ℕ
@@ -90,10 +91,10 @@ pub record World : Type 0 where
 
 -- without a hierarchy
 abbrev pub worldOf : Policy → Request → World
-worldOf P q = record { constants = P .constants; verbs = P .verbs; today = q .today; hierarchy = [] }
+worldOf P q = record { version = P .version; constants = P .constants; verbs = P .verbs; today = q .today; hierarchy = [] }
 
 abbrev pub withHierarchy : List Link → World → World
-withHierarchy H W = record { constants = W .constants; verbs = W .verbs; today = W .today; hierarchy = H }
+withHierarchy H W = record { version = W .version; constants = W .constants; verbs = W .verbs; today = W .today; hierarchy = H }
 
 -- what was read of the lent slices (`Decision.Slices`)
 pub record Read : Type 0 where

@@ -83,6 +83,10 @@ pub record Longer (Q : Assertion → Type 0) (P L : Policy) : Type 0 where
 abbrev pub withPolicy : List ℕ → Lent → Lent
 withPolicy policy l = lent policy (l .slices .request) (l .slices .withdrawals) (l .slices .hierarchy) (l .factBuffer) (l .answerBuffer)
 
+-- derivable within n rounds from what the request's reach counts
+abbrev pub WithinIn : Read → ℕ → Said → Type 0
+WithinIn R = Within (Rule (worldIn R) (countedIn R))
+
 -- the reach goes by what is left
 abbrev pub InReach : Read → ℕ → Type 0
 InReach R = Reach (worldIn R) (leftIn R) (issuers (R .request .node) (worldIn R))
@@ -96,7 +100,7 @@ who (said a d f) = a
 -- "Each issuer in the reach says the same, in the same rounds, when assertions from outside it count too"
 abbrev pub Insiders : Type 0
 Insiders = (s : Slices) (R : Read) → Inputs s R → (n : ℕ) (x : Said) → InReach R (who x)
-    → Within (Rule (worldIn R) (leftIn R)) n x ↔ Within (Rule (worldIn R) (countedIn R)) n x
+    → Within (Rule (worldIn R) (leftIn R)) n x ↔ WithinIn R n x
 
 -- no "not" at any depth
 abbrev mutual
@@ -159,7 +163,31 @@ NoHierarchy = (s : Slices) (P : Policy) (q : Request) (ws : List Withdrawal)
     → s .hierarchy ≡ withoutEntries → ReadAs (s .policy) P → AskedAs P (s .request) q → WithdrawnAs P (s .withdrawals) ws
     → Inputs s (read P q ws []) × ByThree (read P q ws [])
 
--- ---- 4. kinds and bindings
+-- ---- 4. versions (request 06)
+
+-- the same in another version
+abbrev pub inVersion : ℕ → World → World
+inVersion version W = record { version = version; constants = W .constants; verbs = W .verbs; today = W .today; hierarchy = W .hierarchy }
+
+abbrev pub policyInVersion : ℕ → Policy → Policy
+policyInVersion version P = record { version = version; constants = P .constants; verbs = P .verbs; assertions = P .assertions }
+
+abbrev pub readInVersion : ℕ → Read → Read
+readInVersion version R = read (policyInVersion version (R .policy)) (R .request) (R .withdrawals) (R .hierarchy)
+
+-- what version 2 derives from a list of assertions, version 1 derives from it, within the same rounds
+abbrev pub NoMoreByVersion2 : Type 0
+NoMoreByVersion2 = (W : World) (𝒜 : List Assertion) (n : ℕ) (x : Said) → Within (Rule (inVersion 2 W) 𝒜) n x → Within (Rule (inVersion 1 W) 𝒜) n x
+
+-- so it does where each derives from what its own reach counts, that of version 2 being part of that of version 1
+pub record NoMoreIn (R : Read) : Type 0 where
+  pub reach : (p : ℕ) → InReach (readInVersion 2 R) p → InReach (readInVersion 1 R) p
+  pub within : (n : ℕ) (x : Said) → WithinIn (readInVersion 2 R) n x → WithinIn (readInVersion 1 R) n x
+
+abbrev pub NoMoreInReach : Type 0
+NoMoreInReach = (R : Read) → NoMoreIn R
+
+-- ---- 5. kinds and bindings
 
 -- "no choice of kinds for the variables fits": the computed test says whether there is one, whatever the kinds of variables that do not occur
 abbrev pub KindsFit : Type 0
@@ -196,7 +224,7 @@ FreeAnswers = (s : Slices) (R : Read) → Inputs s R → (θ : List ℕ) → Ans
     → List·Memᴰ (kindsIn (worldIn R) (R .request .node) v) kinds
     × (kindAt (R .policy .constants) (getD θ v unbound) ≡ kindsIn (worldIn R) (R .request .node) v) × (getD θ v unbound < unbound)
 
--- ---- 5. "Facts are ground": issuer, speakers and subject are principals of the policy, parameters constants of their verb's kinds; so 255 is none of them
+-- ---- 6. "Facts are ground": issuer, speakers and subject are principals of the policy, parameters constants of their verb's kinds; so 255 is none of them
 
 abbrev pub GroundFact : List Constant → List Verb → Fact ℕ → Type 0
 GroundFact cs vs (flat s v ps) = (kindAt cs s ≡ principal) × (map (kindAt cs) ps ≡ paramKinds vs v)
@@ -209,7 +237,7 @@ GroundSaid W (said a d f) = (kindAt (W .constants) a ≡ principal) × List·Mem
 abbrev pub Ground : Type 0
 Ground = (s : Slices) (R : Read) → Inputs s R → (x : Said) → DerivableIn R x → GroundSaid (worldIn R) x
 
--- ---- 6. safety
+-- ---- 7. safety
 
 -- "7 unsafe request": of a node that is read, the computed test says whether the rules of safety find it safe
 abbrev pub SafelyAsked : Type 0
@@ -228,7 +256,7 @@ pub record InputsBySlice (s : Slices) (R : Read) : Type 0 where
 abbrev pub SliceBySlice : Type 0
 SliceBySlice = (s : Slices) (R : Read) → Inputs s R ↔ InputsBySlice s R
 
--- ---- 7. rules and rounds
+-- ---- 8. rules and rounds
 
 -- what the rules derive is what some round holds
 abbrev pub RulesAreRounds : Type 0
@@ -253,7 +281,7 @@ TableEntries = (W : World) (𝒜 : List Assertion) (c : ℕ) → length (table e
 abbrev pub RoundsAtMostFacts : Type 0
 RoundsAtMostFacts = (l : Lent) → decision l .rounds ≤ decision l .facts
 
--- ---- 8. the outcome
+-- ---- 9. the outcome
 
 abbrev pub MeantBy : Read → ℕ → ℕ → Outcome → Type 0
 MeantBy R = Meant (worldIn R) (countedIn R) (R .request .node)
@@ -289,7 +317,7 @@ Allows = (l : Lent) (R : Read) → Inputs (l .slices) R
     → ((decision l .verdict ≡ allow) ↔ ((θ : List ℕ) × AnswerIn R θ))
     × ((decision l .verdict ≡ deny) ↔ (¬ ((θ : List ℕ) × AnswerIn R θ)))
 
--- ---- 9. the reach, and added assertions
+-- ---- 10. the reach, and added assertions
 
 -- the computed reach is the least set, and the assertions that count are those issued in it
 abbrev pub ComputedReach : Type 0
@@ -309,7 +337,13 @@ Growing = (l : Lent) (longer : List ℕ) (R : Read) (L : Policy) → Inputs (l .
     → IsDecision (decision l .verdict) → IsDecision (decision (withPolicy longer l) .verdict)
     → (θ : List ℕ) → ListedIn (decision l) θ → ListedIn (decision (withPolicy longer l)) θ
 
--- ---- 10. withdrawals
+-- and version 1 answers what version 2 answers: what a stand-in may not do by version 2 is all that is lost
+abbrev pub GrowingByVersion : Type 0
+GrowingByVersion = (l : Lent) (other : List ℕ) (R : Read) → Inputs (l .slices) (readInVersion 2 R) → ReadAs other (policyInVersion 1 (R .policy))
+    → Positive (R .request .node) → IsDecision (decision l .verdict) → IsDecision (decision (withPolicy other l) .verdict)
+    → (θ : List ℕ) → ListedIn (decision l) θ → ListedIn (decision (withPolicy other l)) θ
+
+-- ---- 11. withdrawals
 
 -- with withdrawals the report is that of the same call without entries, on a policy whose list is what is left
 abbrev pub WithdrawnIsAbsent : Type 0

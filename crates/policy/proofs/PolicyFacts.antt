@@ -7,7 +7,7 @@ use native.Mathlib.Omega.{arith}
 use lib.Dec.{eqb}
 use lib.ListN.{length}
 use Rattle.wire.proofs.Reading.{choose-true, choose-false}
-use Rattle.model.specs.Limits.{maxConstants, maxVerbs, maxAssertions, version}
+use Rattle.model.specs.Limits.{maxConstants, maxVerbs, maxAssertions, policyVersions}
 use Rattle.model.specs.Syntax.{Assertion, Constant, Verb}
 use Rattle.model.specs.Bytes.{byteAt, u16At, choose, Reading, got, refused, andThen}
 use Rattle.model.specs.Readings.{itemEnd, endsBy, constantAt, verbAt, assertionAt, assertionEnd}
@@ -194,14 +194,14 @@ module _ {A : Type 0} (r : Reading A) (f : A → ℕ → Reading Accepted) where
 -- ---- version and length
 
 module _ (s : List ℕ) (r : Reading Accepted) where
-  pub no-version : (z : Index) → versionThere version s ≡ false → z ≡ refusal 1 0 → z ≡ handedOut (headed version s r)
+  pub no-version : (z : Index) → versionThere policyVersions s ≡ false → z ≡ refusal 1 0 → z ≡ handedOut (headed policyVersions s r)
   unfolding headed handedOut
   no-version z h i = i ∙ ap handedOut (sym (choose-false _ _ h))
 
-  pub no-length : (z : Index) → versionThere version s ≡ true → lengthRight s ≡ false → z ≡ refusal 2 1 → z ≡ handedOut (headed version s r)
+  pub no-length : (z : Index) → versionThere policyVersions s ≡ true → lengthRight s ≡ false → z ≡ refusal 2 1 → z ≡ handedOut (headed policyVersions s r)
   unfolding headed handedOut
   no-length z h k i = i ∙ ap handedOut (sym (choose-true _ _ h ∙ choose-false _ _ k))
 
-  pub header-right : (z : Index) → versionThere version s ≡ true → lengthRight s ≡ true → z ≡ handedOut r → z ≡ handedOut (headed version s r)
+  pub header-right : (z : Index) → versionThere policyVersions s ≡ true → lengthRight s ≡ true → z ≡ handedOut r → z ≡ handedOut (headed policyVersions s r)
   unfolding headed
   header-right z h k i = i ∙ ap handedOut (sym (choose-true _ _ h ∙ choose-true _ _ k))

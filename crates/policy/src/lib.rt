@@ -136,7 +136,7 @@ fn headed(policy: &[u8]) -> Index
 pub fn read(policy: &[u8]) -> Index
     ensures { λ r. ⌜ r ≡ handedOut (readPolicy (now (policy .entry))) ⌝ }
 {
-    if !slices::version_there(policy, limits::VERSION) {
+    if !slices::version_there(policy, limits::POLICY_VERSIONS) {
         return refused(1, 0);
     }
     if !slices::length_right(policy) {

@@ -8,4 +8,4 @@ abbrev pub constantsBy : List ℕ → List Constant
 constantsBy ks = map (λ k. record { kind = k; label = []; number = 0 }) ks
 
 abbrev pub worldBy : List ℕ → World
-worldBy ks = record { constants = constantsBy ks; verbs = []; today = 0; hierarchy = [] }
+worldBy ks = record { version = 0; constants = constantsBy ks; verbs = []; today = 0; hierarchy = [] }

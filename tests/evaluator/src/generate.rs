@@ -422,10 +422,12 @@ fn damage(r: &mut Random, s: &mut Vec<u8>) {
     }
 }
 
-/// The case with a number. Buffers are as long as `facts` and `answers` ask, a byte or a record more or less.
+/// The case with a number: an even one and the next have the same slices but for the policy's version, 1 and 2. Buffers are as long as `facts` and
+/// `answers` ask, a byte or a record more or less.
 pub fn case(seed: u64, sizes: impl Fn(&Slices) -> (usize, usize)) -> Call {
-    let mut r = Random::new(seed);
-    let (policy, names) = policy(&mut r);
+    let mut r = Random::new(seed / 2);
+    let (mut policy, names) = policy(&mut r);
+    policy[0] = if seed % 2 == 0 { 1 } else { 2 };
     let mut slices = [policy, request(&mut r, &names), withdrawals(&mut r, &names), hierarchy(&mut r, &names)];
     if r.wild(2) {
         let damaged = r.below(slices.len());

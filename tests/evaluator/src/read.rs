@@ -57,6 +57,8 @@ pub enum Value {
 
 #[derive(Debug, Clone)]
 pub struct Policy {
+    /// 1, or 2: "acting as a firm does not carry its can-say rights"
+    pub version: u8,
     pub constants: Vec<(u8, Value)>,
     /// the first byte of each constant
     pub starts: Vec<usize>,
@@ -179,15 +181,13 @@ impl Bytes<'_> {
     }
 }
 
-/// "1 version absent or not 1 (place 0). 2 length field short or wrong (place 1)."
-fn header(s: &[u8]) -> Result<(), Refusal> {
-    if s.first() != Some(&1) {
-        return Err((1, 0));
-    }
+/// "1 version absent or not 1 (place 0). 2 length field short or wrong (place 1)." The versions of a slice go from 1 to a last one.
+fn header(s: &[u8], last_version: u8) -> Result<u8, Refusal> {
+    let version = *s.first().filter(|version| (1..=last_version).contains(*version)).ok_or((1, 0))?;
     if s.len() < 5 || u32::from_be_bytes([s[1], s[2], s[3], s[4]]) as usize != s.len() - 5 {
         return Err((2, 1));
     }
-    Ok(())
+    Ok(version)
 }
 
 /// A list's count, whose place is its own.
@@ -458,7 +458,7 @@ fn safe_request(n: &Node) -> bool {
 // ---- the readers of policy and request
 
 pub fn policy(s: &[u8]) -> Result<Policy, Refusal> {
-    header(s)?;
+    let version = header(s, 2)?;
     let mut at = 5;
     let mut constants: Vec<(u8, Value)> = vec![];
     let mut starts = vec![];
@@ -498,7 +498,7 @@ pub fn policy(s: &[u8]) -> Result<Policy, Refusal> {
     if at != s.len() {
         return Err((3, at));
     }
-    Ok(Policy { constants, starts, verbs, assertions })
+    Ok(Policy { version, constants, starts, verbs, assertions })
 }
 
 /// The node at `at`, at this depth: the node and where it ends.
@@ -549,7 +549,7 @@ fn node(p: &Policy, s: &[u8], at: usize, depth: usize, d: &mut Demands) -> Resul
 }
 
 pub fn request(p: &Policy, s: &[u8]) -> Result<Request, Refusal> {
-    header(s)?;
+    header(s, 1)?;
     let mut b = Bytes { all: s, at: 5, end: s.len() };
     let today = b.number(4).map_err(|f| f.at(5))?;
     if today > 36524 {

@@ -41,7 +41,7 @@ fn level(p: &Policy, e: &Entry) -> Option<Level> {
 }
 
 pub fn hierarchy(p: &Policy, s: &[u8]) -> Result<Vec<Level>, Refusal> {
-    header(s)?;
+    header(s, 1)?;
     let mut at = 5;
     let mut levels = vec![];
     for _ in 0..list(s, &mut at, 0, 1024)? {

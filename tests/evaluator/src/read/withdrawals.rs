@@ -22,7 +22,7 @@ fn has_variable(w: &Withdrawal) -> bool {
 }
 
 pub fn withdrawals(p: &Policy, s: &[u8]) -> Result<Vec<Withdrawal>, Refusal> {
-    header(s)?;
+    header(s, 1)?;
     let mut at = 5;
     let mut entries = vec![];
     for _ in 0..list(s, &mut at, 0, 256)? {
