@@ -80,8 +80,8 @@ static double best(size_t asked, secpal_report *r) {
     double least = 1e12;
     for (int i = 0; i < TURNS; i++) {
         double from = clock_ms();
-        *r = secpal_decide(policy.bytes, policy.len, request.bytes, asked, SECPAL_NONE, SECPAL_NONE_LEN, SECPAL_NONE, SECPAL_NONE_LEN, facts, FACTS_LEN, answers,
-                           ANSWERS_LEN);
+        *r = secpal_decide(policy.bytes, policy.len, request.bytes, asked, SECPAL_NONE, SECPAL_NONE_LEN, SECPAL_NONE, SECPAL_NONE_LEN, facts,
+                           FACTS_LEN, answers, ANSWERS_LEN);
         double took = clock_ms() - from;
         if (took < least) least = took;
     }
