@@ -16,6 +16,7 @@ use Rattle.policy.specs.declared.Answer.{Answer}
 use Rattle.policy.specs.declared.Answer.the-variants as answers
 use Rattle.policy.specs.declared.Index.{Index}
 use Rattle.policy.specs.declared.Part.{Part}
+use Rattle.policy.specs.declared.Vocabulary.{Vocabulary}
 
 -- n numbers: these, and 0 past the last
 unfoldable pub held : ℕ → List ℕ → List ℕ
@@ -69,6 +70,10 @@ refusal n p = record {
 unfoldable pub handedOut : Reading Accepted → Index
 handedOut (got A e) = indexOf A
 handedOut (refused n p) = refusal n p
+
+-- what the later stages look up of it: how many constants there are and where each stands, the kinds and the signatures
+abbrev pub vocabularyOf : Index → Vocabulary
+vocabularyOf x = record { constants = x .constants; «constant_at» = x .«constant_at»; kinds = x .kinds; signatures = x .signatures }
 
 -- ---- the same as the code finds it, by offsets: the verbs' count at p, the assertions' at q
 

@@ -8,7 +8,7 @@ ghost use Rattle.model.specs.Limits.{maxConstants, maxVerbs, maxAssertions};
 ghost use Rattle.model.specs.Policies.{listAt, constantItem, verbItem, assertionsFrom, verbsFrom, constantsFrom, readPolicy};
 ghost use Rattle.slices.specs.Items.{constantsAt, verbsAt};
 ghost use Rattle.wire.specs.Budget.{longest};
-ghost use Rattle.policy.specs.Index.{refusal, indexAt, handedOut, labelOf, labelPart};
+ghost use Rattle.policy.specs.Index.{refusal, indexAt, handedOut, vocabularyOf, labelOf, labelPart};
 
 pub mod tables;
 
@@ -36,6 +36,14 @@ pub struct Index {
     // and of each assertion's issuer: nothing else knows where that stands in its item
     pub issuer_at: [usize; limits::ASSERTIONS],
     // the kind of each constant, and four bytes for each verb from verb 0 on: arity and one, then the kinds of its parameters
+    pub kinds: [u8; limits::CONSTANTS],
+    pub signatures: [u8; tables::SIGNATURES],
+}
+
+// What the later stages look up of it: far less than the index, which they would copy for each call.
+pub struct Vocabulary {
+    pub constants: usize,
+    pub constant_at: [usize; limits::CONSTANTS],
     pub kinds: [u8; limits::CONSTANTS],
     pub signatures: [u8; tables::SIGNATURES],
 }
@@ -143,6 +151,21 @@ pub fn read(policy: &[u8]) -> Index
         return refused(2, limits::LENGTH_AT);
     }
     headed(policy)
+}
+
+// What the index has for the later stages.
+pub fn vocabulary_of(x: Index) -> Vocabulary
+    ensures { λ r. ⌜ r ≡ vocabularyOf x ⌝ }
+{
+    let constant_at = x.constant_at;
+    let kinds = x.kinds;
+    let signatures = x.signatures;
+    Vocabulary {
+        constants: x.constants,
+        constant_at: constant_at,
+        kinds: kinds,
+        signatures: signatures,
+    }
 }
 
 // A part of the policy's bytes.
