@@ -10,7 +10,7 @@ use Rattle.model.specs.Lists.{member}
 use Rattle.model.specs.Syntax.{Read}
 use Rattle.model.specs.Bytes.{byteAt, bytesAt}
 use Rattle.model.specs.Decision.{Slices, Taken, refusedOn, readSlices}
-use Rattle.model.specs.Theorems.{Inputs}
+use Rattle.model.specs.Inputs.{Inputs}
 use Rattle.demands.specs.Lookups.{reachOf, marksFrom, reached, reachedBy, whoseWords}
 use Rattle.reach.specs.Marks.{Marks}
 use Rattle.model.proofs.ByteFacts.{bytes-length, bytes-at}

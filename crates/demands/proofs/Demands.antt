@@ -9,10 +9,11 @@ use Rattle.model.specs.Rules.{Rule}
 use Rattle.model.specs.Meant.{Outcome, AtMost, fullTable, fullAnswers, allListed}
 use Rattle.model.specs.Deciding.{countedIn}
 use Rattle.model.specs.Decision.{Lent, allow, deny, refusal, Report, report, capacity, room, word, cleared, reported, decision}
-use Rattle.model.specs.Theorems.{Inputs, DerivableIn, AnswerIn, IsDecision, ListedIn, MeantBy, IssuedOutside}
+use Rattle.model.specs.Inputs.{Inputs, DerivableIn, AnswerIn, MeantBy}
+use Rattle.theorems.specs.Theorems.{IsDecision, ListedIn, IssuedOutside}
 use Rattle.model.proofs.ClosureFacts.{derives→within, first-unique}
 use Rattle.model.proofs.WithdrawalFacts.{left↔}
-use Rattle.model.proofs.Theorems as M
+use Rattle.theorems.proofs.Theorems as M
 use Rattle.demands.specs.Demands as Q
 use Rattle.demands.specs.Demands.{TableOf, AnswersOf, AnsweredAs, Unmarked}
 use Rattle.demands.proofs.Sides.{number-of, no-refusal, word-decides, made-answered, policy-kept, policy-side, request-kept, request-side}

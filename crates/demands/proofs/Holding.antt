@@ -21,13 +21,13 @@ use Rattle.model.specs.Deciding.{countedIn}
 use Rattle.model.specs.Withdrawals.{leftIn}
 use Rattle.model.proofs.WithdrawalFacts.{counted-in}
 use Rattle.model.specs.Decision.{Slices, Lent, Verdict, allow, deny, report, capacity, room, atFront}
-use Rattle.model.specs.Theorems.{Inputs, DerivableIn, EntryIn, AnswerIn, InReach, answerIn}
+use Rattle.model.specs.Inputs.{Inputs, DerivableIn, EntryIn, AnswerIn, InReach, answerIn}
 use Rattle.model.proofs.Order.{before-irrefl, ascends-distinct}
 use Rattle.model.proofs.RoundFacts as S
 use Rattle.model.proofs.BindingFacts.{bindings-of}
 use Rattle.model.proofs.StepFacts.{eqSaid-of, eqSaid-refl, step-of, step-in}
 use Rattle.model.proofs.DecisionFacts.{slice-by-slice, getD-in, in-getD}
-use Rattle.model.proofs.Theorems.{computedReach}
+use Rattle.theorems.proofs.Theorems.{computedReach}
 use Rattle.demands.specs.Demands.{recordIn, TableOf, AnswersOf}
 use Rattle.demands.proofs.Blocks.{block-at, blocks-length, filled-is, ascends-at}
 use Rattle.demands.proofs.RecordLength.{key-length, shaped, policy-formed}

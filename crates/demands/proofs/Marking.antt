@@ -13,9 +13,9 @@ use Rattle.model.specs.Requests.{issuers}
 use Rattle.model.specs.Withdrawals.{leftIn}
 use Rattle.model.specs.Bytes.{byteAt}
 use Rattle.model.specs.Decision.{Slices, Taken}
-use Rattle.model.specs.Theorems.{Inputs, InReach, Adds, done, keeps, adds}
+use Rattle.model.specs.Inputs.{Inputs, InReach, Adds, done, keeps, adds}
 use Rattle.model.proofs.ListFacts.{member-of, member-in}
-use Rattle.model.proofs.Theorems.{computedReach}
+use Rattle.theorems.proofs.Theorems.{computedReach}
 use Rattle.demands.specs.Lookups.{reachOf, marksFrom, Reached, reached, reachedBy, whoseWords}
 use Rattle.demands.specs.Demands.{MarksOf}
 use Rattle.model.proofs.Tests.{T-true}

@@ -15,7 +15,7 @@ use Rattle.model.specs.Values.{alike}
 use Rattle.model.specs.Bytes.{choose, Reading}
 use Rattle.model.specs.Reader.{Item}
 use Rattle.model.specs.Layout.{Accepted, policyOf, readPolicy}
-use Rattle.model.specs.Theorems.{ReadAs}
+use Rattle.model.specs.Inputs.{ReadAs}
 use Rattle.model.proofs.Tests.{and-true, by-eq}
 use Rattle.model.proofs.ReadFacts.{accepted-count}
 use Rattle.model.proofs.Alike.{alikeLabels, oneLabel}

@@ -11,7 +11,8 @@ use Rattle.model.specs.Bytes.{Reading, got, refused}
 use Rattle.model.specs.Policies.{Accepted, policyOf, readPolicy}
 use Rattle.model.specs.Decision.{Slices, Lent, Taken, accepted, refusedOn, requestUnder, withdrawalsUnder, hierarchyUnder, sided}
 use Rattle.model.specs.Decision.{readSlices, Verdict, refusal, Report, capacity, room, word, untouched, reported, decisionOf, decision}
-use Rattle.model.specs.Theorems.{ReadAs, AskedAs, WithdrawnAs, Inputs, IsDecision}
+use Rattle.model.specs.Inputs.{ReadAs, AskedAs, WithdrawnAs, Inputs}
+use Rattle.theorems.specs.Theorems.{IsDecision}
 use Rattle.model.proofs.ListFacts.{member-of}
 use Rattle.model.proofs.DecisionFacts.{afterWithdrawals, afterRequest, afterPolicy, on-policy, on-request, on-withdrawals}
 use Rattle.demands.specs.Demands.{Answered}

@@ -18,10 +18,12 @@ use Rattle.model.specs.Bytes.{byteAt, refused}
 use Rattle.model.specs.Layout.{readPolicy}
 use Rattle.model.specs.Decision.{Slices, Lent, requestUnder, withdrawalsUnder, hierarchyUnder, Verdict, allow, deny, refusal, Report, report, capacity}
 use Rattle.model.specs.Decision.{room, cleared, untouched, decision}
-use Rattle.model.specs.Theorems.{ReadAs, AskedAs, WithdrawnAs, RankedAs, Inputs, DerivableIn, EntryIn, AnswerIn, InReach, Longer, withPolicy, IssuedOutside}
-use Rattle.model.specs.Theorems.{Anyone, Positive, Ground, NoHierarchy, ComputedDescendants}
-use Rattle.model.specs.Theorems.{IsDecision, answerIn, ListedIn, RecordsTell, Insiders, withoutEntries, withWithdrawals, withAssertions, withoutSerials}
-use Rattle.model.specs.Theorems.{policyInVersion, readInVersion, NoMoreByVersion2, NoMoreInReach}
+use Rattle.model.specs.Inputs.{ReadAs, AskedAs, WithdrawnAs, RankedAs, Inputs, DerivableIn, EntryIn, AnswerIn, InReach}
+use Rattle.theorems.specs.Theorems.{Longer, withPolicy, IssuedOutside}
+use Rattle.theorems.specs.Theorems.{Anyone, Positive, Ground, NoHierarchy, ComputedDescendants}
+use Rattle.model.specs.Inputs.{answerIn, withoutEntries}
+use Rattle.theorems.specs.Theorems.{IsDecision, ListedIn, RecordsTell, Insiders, withWithdrawals, withAssertions, withoutSerials}
+use Rattle.theorems.specs.Theorems.{policyInVersion, readInVersion, NoMoreByVersion2, NoMoreInReach}
 use Rattle.demands.specs.Lookups.{Reached, whoseWords}
 
 -- what the contract of `decide` says of a call: ρ is what it returned, and what both buffers hold then

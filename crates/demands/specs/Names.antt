@@ -10,7 +10,7 @@ use Rattle.model.specs.Syntax.{Policy}
 use Rattle.model.specs.Kinds.{noConstant}
 use Rattle.model.specs.Values.{alike}
 use Rattle.model.specs.Layout.{readPolicy}
-use Rattle.model.specs.Theorems.{ReadAs}
+use Rattle.model.specs.Inputs.{ReadAs}
 use Rattle.demands.specs.Lookups.{noNumber, numberIn}
 
 -- what the contract of `secpal_find` says of a call: n is the number that it gave

@@ -4,7 +4,7 @@ ghost use mathlib.Core.Path.{_≡_};
 ghost use Prim.Native.Nat.{_≤_};
 ghost use lib.ListN.{length, take, replicate};
 ghost use Rattle.model.specs.Decision.{lent, decision};
-ghost use Rattle.model.specs.Theorems.{withoutEntries};
+ghost use Rattle.model.specs.Inputs.{withoutEntries};
 ghost use Rattle.outcome.specs.Line.{lineOf};
 ghost use Rattle.io.specs.Counts.{Counts};
 

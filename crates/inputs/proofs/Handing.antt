@@ -14,7 +14,7 @@ use Rattle.model.specs.Nodes.{readRequest}
 use Rattle.model.specs.Entries.{readWithdrawals, readHierarchy}
 use Rattle.model.specs.Deciding.{read}
 use Rattle.model.specs.Decision.{Slices, Lent, slices, Taken, accepted, refusedOn, sided, readSlices, untouched, decisionOf, decision}
-use Rattle.model.specs.Theorems.{Inputs}
+use Rattle.model.specs.Inputs.{Inputs}
 use Rattle.model.proofs.DecisionFacts.{of-slices, on-policy}
 use Rattle.demands.specs.Demands.{Call}
 use Rattle.demands.proofs.Numbers.{RefusesBy, ofRequest, ofWithdrawals, ofHierarchy, request-numbers, withdrawals-numbers, hierarchy-numbers}

@@ -22,7 +22,7 @@ use Rattle.model.specs.Readings.{itemEnd, hasLabel, constantAt}
 use Rattle.model.specs.Forms.{itemThere, constantForm}
 use Rattle.model.specs.Policies.{contents, Accepted, policyOf, readPolicy, alikeConstants, alikeVerbs, constantItem, verbItem}
 use Rattle.model.specs.Policies.{assertionsFrom, verbsFrom, constantsFrom, computedPolicy}
-use Rattle.model.specs.Theorems.{ReadAs}
+use Rattle.model.specs.Inputs.{ReadAs}
 use Rattle.model.specs.Alike.{OnlyCapitals, AlikeLabels, BeginningLabels, OneConstant, OneLabel, OneVerb, nameless, OwnBytes, Arms}
 use Rattle.model.proofs.Tests.{T-true, true-T, both-of, eqb-turned}
 use Rattle.model.proofs.ListFacts.{and-of, and-in}

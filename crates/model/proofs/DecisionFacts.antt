@@ -21,7 +21,7 @@ use Rattle.model.specs.Policies.{Accepted, policyOf, readPolicy}
 use Rattle.model.specs.Nodes.{readRequest}
 use Rattle.model.specs.Decision.{Slices, Lent, Taken, accepted, refusedOn, requestUnder, withdrawalsUnder, hierarchyUnder, sided}
 use Rattle.model.specs.Decision.{readSlices, Report, capacity, room, reported, decisionOf, decision}
-use Rattle.model.specs.Theorems.{ReadAs, AskedAs, WithdrawnAs, RankedAs, Inputs, InputsBySlice, answerIn}
+use Rattle.model.specs.Inputs.{ReadAs, AskedAs, WithdrawnAs, RankedAs, Inputs, InputsBySlice, answerIn}
 use Rattle.model.proofs.RoundFacts as S
 use Rattle.model.proofs.StepFacts.{eqSaid-of, eqSaid-refl, step-of, step-in}
 use Rattle.model.proofs.OutcomeFacts.{sorted-length, sorted-round, Result, over, many, fine, result, found}

@@ -17,7 +17,7 @@ use Rattle.model.specs.Hierarchy.{Covers, phrase, nested}
 use Rattle.model.specs.Rules.{Rule, cond, canSays, actsAs, covers, bodyOf}
 use Rattle.model.specs.Reach.{Joins, asks, names, Reach, namedBy, joining}
 use Rattle.model.specs.Reached.{issuedIn, reach, counting}
-use Rattle.model.specs.Theorems.{who}
+use Rattle.model.specs.Inputs.{who}
 use Rattle.model.proofs.ListFacts.{if-in, member-in, keep-of, keep-in}
 use Rattle.model.proofs.ClosureFacts.{within-more}
 use Rattle.model.proofs.BindingFacts.{bindings-of, at-variable}

@@ -1,4 +1,3 @@
-pub mod Cases
 pub mod Tests
 pub mod ByteFacts
 pub mod ListFacts
@@ -12,11 +11,8 @@ pub mod ReachFacts
 pub mod JudgingFacts
 pub mod RecordFacts
 pub mod OutcomeFacts
-pub mod Outside
 pub mod Inside
 pub mod WorldFacts
-pub mod Growth
-pub mod VersionFacts
 pub mod WithdrawalFacts
 pub mod KindFacts
 pub mod ReadFacts
@@ -31,12 +27,7 @@ pub mod CheckedNodes
 pub mod RequestReader
 pub mod EntryReader
 pub mod SafetyRules
-pub mod ProperRequests
-pub mod BoundVariables
 pub mod LinkFacts
-pub mod Grounded
-pub mod FreeVariables
-pub mod Theorems
 pub mod CalendarFacts
 pub mod DaysOfYear
 pub mod Years

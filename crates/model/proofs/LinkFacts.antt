@@ -13,7 +13,7 @@ use Rattle.model.specs.Closure.{by}
 use Rattle.model.specs.Hierarchy.{link, child, onward, Below, Replaced, end, stays, falls, Covers, phrase, nested}
 use Rattle.model.specs.Bytes.{got}
 use Rattle.model.specs.Entries.{linkAt, linkJudged, linkItem, computedHierarchy, readHierarchy}
-use Rattle.model.specs.Theorems.{GroundFact}
+use Rattle.model.specs.Inputs.{GroundFact}
 use Rattle.model.proofs.ListFacts.{and-of}
 use Rattle.model.proofs.ReadFacts.{choose-yes, choose-no, andThen-got, headed-got, ended-got, list-each}
 use Rattle.model.proofs.EntryReader.{hierarchy-is}

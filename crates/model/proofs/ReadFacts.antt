@@ -25,7 +25,7 @@ use Rattle.model.proofs.ListFacts.{and-of, any-of}
 use Rattle.model.proofs.BindingFacts.{picks-of}
 use Rattle.model.proofs.Inside.{Placed}
 use Rattle.model.proofs.ByteFacts.{below-length}
-use Rattle.model.specs.Theorems.{ReadAs}
+use Rattle.model.specs.Inputs.{ReadAs}
 
 -- ---- what must have been read before
 

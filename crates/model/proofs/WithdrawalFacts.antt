@@ -18,7 +18,7 @@ use Rattle.model.specs.Reached.{issuedIn, brings, join, named, reach, co
 use Rattle.model.specs.Records.{Entry, keyOf}
 use Rattle.model.specs.Judging.{answersOf}
 use Rattle.model.specs.Deciding.{listed, chosen, outcome, countedIn}
-use Rattle.model.specs.Theorems.{Adds, done, keeps, adds, withoutSerial}
+use Rattle.model.specs.Inputs.{Adds, done, keeps, adds, withoutSerial}
 use Rattle.model.proofs.ListFacts.{and-of, and-in, eqb-in, any-of, any-in, all-of, all-in, keep-of, keep-in}
 
 -- ---- what is left is some of the policy's assertions

@@ -12,7 +12,7 @@ use Rattle.model.specs.Values.{lower, lowered, alike, begins, sameValue}
 use Rattle.model.specs.Bytes.{Reading, got, refused}
 use Rattle.model.specs.Layout.{Accepted, readPolicy}
 use Rattle.model.specs.Labels.{labelOf}
-use Rattle.model.specs.Theorems.{ReadAs}
+use Rattle.model.specs.Inputs.{ReadAs}
 
 -- Capitals are read as small letters, and no other byte as another: `@` (0x40) and a backquote (0x60) stay apart, as do `[` (0x5B) and `{` (0x7B).
 pub record OnlyCapitals : Type 0 where

@@ -7,7 +7,6 @@ pub mod Syntax
 pub mod Kinds
 pub mod Calendar
 pub mod Values
-pub mod Binding
 -- What is true: rules, reach, requests, safety, and the outcome that is meant.
 pub mod Closure
 pub mod Versions
@@ -39,8 +38,7 @@ pub mod Forms
 pub mod Policies
 pub mod Nodes
 pub mod Entries
--- What is proved.
-pub mod Theorems
+-- What statements speak of, and what is stated of the calendar and of labels. Crate `theorems` has the statements of the rules and the decision.
+pub mod Inputs
 pub mod Years
 pub mod Alike
-pub mod Cases

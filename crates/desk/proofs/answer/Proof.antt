@@ -5,7 +5,7 @@ use mathlib.Core.List.{List, []}
 use Prim.Native.Nat.{ℕ}
 use lib.ListN.{replicate}
 use Rattle.model.specs.Decision.{Lent, lent, decision}
-use Rattle.model.specs.Theorems.{withoutEntries}
+use Rattle.model.specs.Inputs.{withoutEntries}
 use Rattle.demands.specs.Demands.{Call}
 use Rattle.outcome.specs.declared.Outcome.{Outcome}
 use Rattle.outcome.specs.Reported.{reportOf}
