@@ -46,13 +46,18 @@ pub fn alike(left: &[u8], p: usize, right: &[u8], q: usize, n: usize) -> bool
     requires { ⌜ (p + n ≤ largest) × (q + n ≤ largest) ⌝ }
     ensures { λ r. ⌜ r ≡ alike (bytesAt n (now (left .entry)) p) (bytesAt n (now (right .entry)) q) ⌝ }
 {
-    if n == 0 {
-        return true;
+    let mut more = n;
+    let mut at = p;
+    let mut beside = q;
+    while more != 0 {
+        if !same_letter(wire::byte_or(left, at), wire::byte_or(right, beside)) {
+            return false;
+        }
+        more -= 1;
+        at += 1;
+        beside += 1;
     }
-    if same_letter(wire::byte_or(left, p), wire::byte_or(right, q)) {
-        return alike(left, p + 1, right, q + 1, n - 1);
-    }
-    false
+    true
 }
 
 // The bucket of the label of n bytes that stands at p. Labels that are alike fall into one bucket.

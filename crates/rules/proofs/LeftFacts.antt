@@ -115,8 +115,8 @@ module _ {p : Pattern} (S : Sound p) where
       go true q (inl r) = inr (rw (eq-eqb (bestUpto p n met β) 4 (r .0)) (omega arith, q))
       go true q (inr r) =
           let l : bestUpto p n met β < n = r .0 in
-          inr (rw (ne-eqb (bestUpto p n met β) 4 (λ z. omega arith)) (either (ltb (rank p met β n) (rank p met β (bestUpto p n met β)))))
+          inr (rw (ne-eqb (bestUpto p n met β) 4 (λ z. omega arith)) (either (ltb (rank p met β (bestUpto p n met β)) (rank p met β n))))
         where
-          either : (b : Bool) → (cond b n (bestUpto p n met β) < suc n) × (isLeft p met (cond b n (bestUpto p n met β)) ≡ true)
-          either true = (omega arith, q)
-          either false = ((let l : bestUpto p n met β < n = r .0 in omega arith), r .1)
+          either : (b : Bool) → (cond b (bestUpto p n met β) n < suc n) × (isLeft p met (cond b (bestUpto p n met β) n) ≡ true)
+          either true = ((let l : bestUpto p n met β < n = r .0 in omega arith), r .1)
+          either false = (omega arith, q)

@@ -81,13 +81,16 @@ fn label_bytes(s: &[u8], p: usize, n: usize) -> bool
     requires { ⌜ p + n ≤ length (now s) ⌝ }
     ensures { λ r. ⌜ r ≡ all labelByte (bytesAt n (now (s .entry)) p) ⌝ }
 {
-    if n == 0 {
-        return true;
+    let mut left = n;
+    let mut at = p;
+    while left != 0 {
+        if !label_byte(s, at) {
+            return false;
+        }
+        left -= 1;
+        at += 1;
     }
-    if label_byte(s, p) {
-        return label_bytes(s, p + 1, n - 1);
-    }
-    false
+    true
 }
 
 // A label of n bytes from p on.
