@@ -1,21 +1,29 @@
 -- Choices of kinds: the computed test finds one exactly if there is one, and a variable has the kind of its first place.
-use mathlib.Core.Path.{_≡_, refl, sym, ap, ap₂, subst, _∙_}
-use mathlib.Core.Logic.{_↔_, _⊎_, inl, inr, ⊎-elim}
-use mathlib.Core.List.{List, [], _∷_, _++_, map, List·Memᴰ, List·Memᴰ·head, List·Memᴰ·tail, List·Memᴰ·eq-of-singleton, Memᴰ·append-left, Memᴰ·append-right}
-use mathlib.Core.Bool.{Bool, true, false, cond, _&&_}
-use Prim.Native.Nat.{ℕ, zero, suc, _<_, _≤_}
+use mathlib.Core.Path.{_≡_, refl, sym, ap, subst, _∙_}
+use mathlib.Core.Logic.{_↔_}
+use mathlib.Core.List.{List, [], _∷_, map, List·Memᴰ, List·Memᴰ·head, List·Memᴰ·eq-of-singleton, Memᴰ·append-left, Memᴰ·append-right}
+use mathlib.Core.Bool.{Bool, true, false, cond}
+use Prim.Native.Nat.{ℕ, _<_, _≤_}
 use native.Mathlib.Decide.{decLt}
-use native.Mathlib.Nat.{not-suc-le-zero, le-of-suc-le-suc}
 use native.Mathlib.Omega.{arith}
-use lib.ListN.{length, getD, length-map, List·getD-eq-default}
+use lib.ListN.{length, getD, List·getD-eq-default}
 use lib.Dec.{T, eqb, eqb→eq}
 use Rattle.model.specs.Limits.{principal}
-use Rattle.model.specs.Lists.{all, any, each, member, product}
+use Rattle.model.specs.Lists.{all, each, member}
 use Rattle.model.specs.Syntax.{Expr, con, var, today, Constraint, Constant, varsOf, varsTest}
-use Rattle.model.specs.Kinds.{Demands, kindUnder, inPlace, comparable, operands, meets, occurring, kinds, kindsFor, choicesOf, fitting, variables, kindOf}
-use Rattle.model.specs.Kinds.{isVar}
+use Rattle.model.specs.Kinds.{Demands, noConstant, kindAt, kindUnder, inPlace, comparable, meets, occurring, kinds, kindsFor, choicesOf}
+use Rattle.model.specs.Kinds.{fitting, variables, kindOf, isVar}
 use Rattle.model.proofs.ListFacts.{and-of, and-in, all-of, all-in, any-of, any-in, each-in, member-in}
 use Rattle.model.proofs.BindingFacts.{picks-of, picks-in, at-variable}
+
+-- a constant of some kind is there
+pub kind-there : (cs : List Constant) (c k : ℕ) → kindAt cs c ≡ k → 1 ≤ k → c < length cs
+kind-there cs c k e l = go (decLt c (length cs))
+  where
+    go : Dec (c < length cs) → c < length cs
+    go (yes h) = h
+    go (no h) = absurd (let z : kindAt cs c ≡ 0 = ap (λ (x : Constant). x .kind)
+        (List·getD-eq-default cs noConstant (let q : length cs ≤ c = omega arith in q)) in omega arith)
 
 -- ---- there is a choice
 

@@ -1,5 +1,5 @@
 -- Tables that a loop fills: what is still to be put down, one turn on.
-use mathlib.Core.Path.{_≡_, refl, sym, _∙_, ap, ap₂}
+use mathlib.Core.Path.{_≡_, refl, sym, _∙_, ap}
 use mathlib.Core.Bool.{Bool, true, false}
 use mathlib.Core.List.{List, [], _∷_, _++_, map}
 use Prim.Native.Nat.{ℕ, zero, suc, _+_, _-_, _*_, _≤_, _<_}
@@ -14,7 +14,7 @@ use Rattle.slices.specs.Items.{startsAt}
 use Rattle.assertions.specs.Assertions.{issuerAt}
 use Rattle.policy.specs.Index.{held, kindOf, rowAt, kindsAt, signaturesAt}
 
-any-choice : (b : Bool) (x y : List ℕ) (n : ℕ) → length x ≡ n → length y ≡ n → length (choose b x y) ≡ n
+pub any-choice : (b : Bool) (x y : List ℕ) (n : ℕ) → length x ≡ n → length y ≡ n → length (choose b x y) ≡ n
 unfolding choose
 any-choice true x y n d e = d
 any-choice false x y n d e = e

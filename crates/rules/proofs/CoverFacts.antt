@@ -1,15 +1,15 @@
 -- The hierarchy: a fact gives, on its places, the facts that it covers, and nothing else. Each of its three parameters is replaced by one of its family; a
 -- place past the verb's parameters has 0, which no entry is about.
 use mathlib.Core.Path.{_≡_, refl, sym, ap, subst, _∙_}
-use mathlib.Core.Logic.{_⊎_, inl, inr, ⊎-elim}
+use mathlib.Core.Logic.{_⊎_, inl, inr}
 use mathlib.Core.Bool.{Bool, true, false, _||_, not, true≢false}
-use mathlib.Core.List.{List, [], _∷_, List·Memᴰ, List·Memᴰ·head, List·Memᴰ·eq-of-singleton, Memᴰ·cast}
+use mathlib.Core.List.{List, [], _∷_, List·Memᴰ, List·Memᴰ·eq-of-singleton, Memᴰ·cast}
 use Prim.Native.Nat.{ℕ, zero, suc, _+_, _≤_, _<_}
 use native.Mathlib.Omega.{arith}
 use lib.ListN.{length, getD}
 use lib.Dec.{T}
 use borrow.Author.Tests.{eq-eqb}
-use Rattle.model.specs.Lists.{pad, each, only}
+use Rattle.model.specs.Lists.{pad}
 use Rattle.model.specs.Syntax.{Fact, flat, canSay, Link, Said, said, Assertion, World}
 use Rattle.model.specs.Kinds.{paramKinds}
 use Rattle.model.specs.Records.{key}
@@ -21,9 +21,9 @@ use Rattle.model.proofs.ListFacts.{only-of, only-in, each-of, each-in}
 use Rattle.model.proofs.ClosureFacts.{within→derives}
 use Rattle.fact.specs.Places.{verbOf, firstOf, secondOf, thirdOf, replacedOf, sameFact, numberOf}
 use Rattle.rules.specs.Rows.{Formed}
-use Rattle.rules.specs.Proper.{Below, SmallFact, Linked, Sources}
+use Rattle.rules.specs.Proper.{Below, SmallFact}
 use Rattle.rules.specs.Families.{familyOf, otherGives, thirdsOf, secondsOf, firstsOf, coversOf}
-use Rattle.rules.proofs.ExtendFacts.{In, T-true}
+use Rattle.rules.proofs.ExtendFacts.{In}
 use Rattle.rules.proofs.RoundLaw.{Given}
 use Rattle.rules.proofs.Good.{Good, good}
 use Rattle.rules.proofs.UseFacts.{Here, now-good, same-places}

@@ -20,6 +20,7 @@ use Rattle.model.proofs.ListFacts.{all-of, all-in}
 use Rattle.model.proofs.BindingFacts.{at-variable}
 use Rattle.model.proofs.RecordFacts.{arity-map}
 use Rattle.fact.specs.Places.{factOf}
+use Rattle.model.proofs.Tests.{T-true}
 use Rattle.rules.specs.Rows.{rowOf, noFact}
 use Rattle.rules.specs.Patterns.{Pattern, Frame}
 use Rattle.rules.specs.Cond.{field, headEntry, bodyRow}
@@ -27,7 +28,7 @@ use Rattle.rules.specs.Proper.{Proper, HasAll, Below, Sources}
 use Rattle.rules.specs.Laid.{noTest, Laid}
 use Rattle.rules.specs.Valid.{Valid}
 use Rattle.rules.proofs.MatchFacts.{Ground}
-use Rattle.rules.proofs.ExtendFacts.{L, In, T-true, Over}
+use Rattle.rules.proofs.ExtendFacts.{L, In, Over}
 use Rattle.rules.proofs.RowFacts.{row-key}
 use Rattle.rules.proofs.StepFacts.{Search}
 use Rattle.rules.proofs.LeftFacts.{Sound}

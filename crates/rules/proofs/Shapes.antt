@@ -11,8 +11,9 @@ use Rattle.model.specs.Lists.{pad}
 use Rattle.model.specs.Syntax.{Fact, flat, canSay, said, about, subject}
 use Rattle.model.specs.Records.{key, nest}
 use Rattle.fact.specs.Places.{innerOf, heardOf, aboutOf, topOf}
+use Rattle.model.proofs.ByteFacts.{length-pad}
 use Rattle.rules.specs.Rows.{Formed}
-use Rattle.rules.proofs.Good.{key-length, length-pad}
+use Rattle.rules.proofs.Good.{key-length}
 
 -- n places from i on
 places : ℕ → ℕ → List ℕ → List ℕ

@@ -19,6 +19,7 @@ use Rattle.model.specs.Values as P
 use Rattle.model.specs.Values.{bound}
 use Rattle.model.proofs.ListFacts.{all-of, all-in, only-of, only-in}
 use Rattle.fact.specs.Places.{stampOf, factOf}
+use Rattle.model.proofs.Tests.{T-true}
 use Rattle.rules.specs.Matching.{at, fits, follow}
 use Rattle.rules.specs.Plan.{Part, bodyFact, variable, Mode, every, enough, once, look, finds, Step}
 use Rattle.rules.specs.Patterns.{Pattern, Frame}
@@ -27,7 +28,7 @@ use Rattle.rules.specs.Valid.{marked, exprsOf, There, Testable, Newly, a
 use Rattle.rules.specs.Proper.{HasAll}
 use Rattle.rules.proofs.MatchFacts.{Under, Ground, row-on, row-bound, Fitted, fits-of}
 use Rattle.rules.proofs.KindFacts.{upto-of}
-use Rattle.rules.proofs.ExtendFacts.{L, In, T-true, Over, Binds, Fair, fair-on}
+use Rattle.rules.proofs.ExtendFacts.{L, In, Over, Binds, Fair, fair-on}
 use Rattle.rules.proofs.TestFacts.{passes-same, told-bound}
 use Rattle.rules.proofs.Following.{follow-of, onward}
 
