@@ -4,3 +4,4 @@ pub mod Judging
 pub mod Fills
 pub mod Writing
 pub mod Meant
+pub mod NoAnswer
