@@ -2,6 +2,7 @@ pub mod Asking
 pub mod Deciding
 pub mod Accepting
 pub mod Reaching
+pub mod Lasting
 pub mod Answering
 pub mod Refusing
 pub mod MarkLaws
