@@ -1,11 +1,12 @@
-/* Policies with a hierarchy of 1,024 entries, each in a folder of its own: the entries make a chain, a star, a grid of diamonds or a ring of the
-   things, for one verb after another until all entries are used. Each principal may do to the first thing what a verb says. */
+/* Policies with a hierarchy of up to 1,024 entries, each in a folder of its own: the entries make a chain, a star, a grid of diamonds or a ring of the
+   things, for one verb after another until all entries are used, or stand between any two of a few things, for the first verb alone. Each principal may
+   do to the first thing what a verb says. */
 #include "bench.h"
 #include "writer.h"
 
 #include <stdio.h>
 
-enum { PRINCIPALS = 15, THINGS = 240, WIDTH = 16, VERBS = 5 };
+enum { PRINCIPALS = 15, THINGS = 240, WIDTH = 16, DENSE = 32, VERBS = 5 };
 
 static writer policy, request, hierarchy;
 
@@ -71,6 +72,14 @@ static void ring(unsigned verb) {
     for (unsigned i = 0; i < THINGS; i++) entry(verb, i, (i + 1) % THINGS);
 }
 
+/* Each of a few things stands over each other one. */
+static void dense(unsigned verb) {
+    if (verb != 1) return;
+    for (unsigned i = 0; i < DENSE * DENSE; i++) {
+        if (i / DENSE != i % DENSE) entry(verb, i / DENSE, i % DENSE);
+    }
+}
+
 static void write_folder(const char *out, const char *name, void (*shape)(unsigned verb)) {
     char dir[4096];
     snprintf(dir, sizeof dir, "%s/%s", out, name);
@@ -95,5 +104,6 @@ int main(int argc, char **argv) {
     write_folder(argv[1], "star", star);
     write_folder(argv[1], "diamonds", diamonds);
     write_folder(argv[1], "ring", ring);
+    write_folder(argv[1], "dense", dense);
     return 0;
 }

@@ -3,4 +3,8 @@ pub mod Finding
 pub mod Scanning
 pub mod Growing
 pub mod Laying
+pub mod Marking
+pub mod Owning
+pub mod Keeping
+pub mod Uniting
 pub mod Covering

@@ -22,12 +22,12 @@ use Rattle.model.proofs.ClosureFacts.{within→derives}
 use Rattle.fact.specs.Places.{verbOf, firstOf, secondOf, thirdOf, replacedOf, sameFact, numberOf}
 use Rattle.rules.specs.Rows.{Formed}
 use Rattle.rules.specs.Proper.{Below, SmallFact}
-use Rattle.rules.specs.Families.{familyOf, otherGives, thirdsOf, secondsOf, firstsOf, coversOf}
+use Rattle.rules.specs.Families.{orderedOf, otherGives, thirdsOf, secondsOf, firstsOf, coversOf}
 use Rattle.rules.proofs.ExtendFacts.{In}
 use Rattle.rules.proofs.RoundLaw.{Given}
 use Rattle.rules.proofs.Good.{Good, good}
 use Rattle.rules.proofs.UseFacts.{Here, now-good, same-places}
-use Rattle.rules.proofs.FamilyFacts.{family-of, family-self, family-in}
+use Rattle.rules.proofs.FamilyFacts.{ordered-of, ordered-self, ordered-in}
 
 -- ---- the innermost verb and its parameters
 
@@ -224,7 +224,7 @@ module _ {W : World} {𝒜 : List Assertion} {n round : ℕ} (E : Here W 𝒜 n 
     small = small-at ps (params-small f (g .small .2))
 
     abbrev family : ℕ → ℕ → List ℕ
-    family position j = familyOf H v position (getD ps j 0)
+    family position j = orderedOf H v position (getD ps j 0)
 
     -- the entries, by the fact's own verb and parameters
     by-fields : coversOf round (key (said a d f)) H ≡ firstsOf round (key (said a d f)) (family 1 0) (family 2 1) (family 3 2)
@@ -232,7 +232,7 @@ module _ {W : World} {𝒜 : List Assertion} {n round : ℕ} (E : Here W 𝒜 n 
     by-fields =
         let verb = verb-key a d f (g .shape) in
         let at = fields-key a d f (g .shape) in
-        λ i. firstsOf round (key (said a d f)) (familyOf H (verb i) 1 (at .0 i)) (familyOf H (verb i) 2 (at .1 i)) (familyOf H (verb i) 3 (at .2 i))
+        λ i. firstsOf round (key (said a d f)) (orderedOf H (verb i) 1 (at .0 i)) (orderedOf H (verb i) 2 (at .1 i)) (orderedOf H (verb i) 3 (at .2 i))
 
     other-of : (x y z : ℕ) → List·Memᴰ x (family 1 0) → List·Memᴰ y (family 2 1) → List·Memᴰ z (family 3 2)
         → (c : List ℕ) → In c (otherGives round (key (said a d f)) x y z) → Given (Rule W 𝒜) key n round c
@@ -240,8 +240,8 @@ module _ {W : World} {𝒜 : List Assertion} {n round : ℕ} (E : Here W 𝒜 n 
     other-of x y z mx my mz c m =
         let o = only-of (not (sameFact (replacedOf (key (said a d f)) x y z) (key (said a d f)))) m in
         let s = chosen H v ps few (λ p c x h. none-past v p c x (omega (arith, arity)))
-        (choose H v 1 _ x (family-of H v 1 children-small _ (small 0) x mx) .1) (choose H v 2 _ y (family-of H v 2 children-small _ (small 1) y my) .1)
-        (choose H v 3 _ z (family-of H v 3 children-small _ (small 2) z mz) .1) in
+        (choose H v 1 _ x (ordered-of H v 1 children-small _ (small 0) x mx) .1) (choose H v 2 _ y (ordered-of H v 2 children-small _ (small 1) y my) .1)
+        (choose H v 3 _ z (ordered-of H v 3 children-small _ (small 2) z mz) .1) in
         made (s .0) (s .1) (s .2) (replaced-key a d f (g .shape) (s .0) x y z (s .3)) (o .0) (o .1)
       where
         made : (qs : List ℕ) (b : Bool) → Replaced H v 1 b ps qs → replacedOf (key (said a d f)) x y z ≡ key (said a d (withParams qs f))
@@ -268,8 +268,8 @@ module _ {W : World} {𝒜 : List Assertion} {n round : ℕ} (E : Here W 𝒜 n 
 
     in-family : (position j : ℕ) (x : ℕ) → (x ≡ getD ps j 0) ⊎ covering.Below H v position (getD ps j 0) x → List·Memᴰ x (family position j)
     unfolding small
-    in-family position j x (inl e) = Memᴰ·cast e (family-self H v position children-small (getD ps j 0) (small j))
-    in-family position j x (inr u) = family-in H v position children-small (getD ps j 0) (small j) x u
+    in-family position j x (inl e) = Memᴰ·cast e (ordered-self H v position children-small (getD ps j 0) (small j))
+    in-family position j x (inr u) = ordered-in H v position children-small (getD ps j 0) (small j) x u
 
     -- what is covered is the fact itself, or is given
     pub cover-in : (h : Fact ℕ) → Covers H f h → Now (said a d h) ⊎ In (round ∷ key (said a d h)) (coversOf round (key (said a d f)) H)
