@@ -22,6 +22,7 @@ pub mod UseFacts
 pub mod CoverFacts
 pub mod Framed
 pub mod Searching
+pub mod SearchingAlone
 pub mod CondRule
 pub mod RoundFacts
 pub mod Outcome

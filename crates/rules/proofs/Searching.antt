@@ -34,6 +34,28 @@ use Rattle.rules.proofs.Framed.{Framed}
 one-match : {F : Frame} {t : L} {part : Part} {y τ : List ℕ} → Carried F t ((part, y) ∷ []) τ → Next F t unbound8 part y τ
 one-match (further (begun h) n) = n
 
+-- before the first step, along any plan that is right
+module _ {F : Frame} {cs : List Constant} {ks : List ℕ} {t : L} (S : Search F cs ks t) where
+  pub at-none : Carried F t [] unbound8 → At S unbound8 [] unbound8
+  at-none c = record { carried = c; long = refl; marks = record { of = λ v z. z }; back = record { of = λ v z. z } }
+
+  module _ {skip : ℕ} {plan : Plan} (valid : Valid (F .pattern) skip plan) where
+    pub begins-of : hold F (plan .ground) unbound8 ≡ true → Carried F t [] unbound8
+    begins-of h = begun (λ i l e. hold-of S unbound8 (plan .ground) h i (valid .ground .1 i (l, e)))
+
+    pub begins-in : Carried F t [] unbound8 → hold F (plan .ground) unbound8 ≡ true
+    begins-in c = hold-in S unbound8 (plan .ground) (λ i m. let n = valid .ground .0 i m in carried-fits S c .1 i (n .0) (n .1))
+
+  pub steps-of : (plan : Plan) {r : List ℕ} (τ : List ℕ) → In r (searchBy F t plan τ)
+      → (hold F (plan .first) τ ≡ true) × In r (search F t (plan .steps) τ)
+  unfolding searchBy
+  steps-of plan {r} τ m = go (hold F (plan .first) τ) refl m
+    where
+      go : (b : Bool) → hold F (plan .first) τ ≡ b → In r (cond b (search F t (plan .steps) τ) [])
+          → (hold F (plan .first) τ ≡ true) × In r (search F t (plan .steps) τ)
+      go true e m = (e, m)
+      go false e m = absurd (List·Memᴰ·not-nil m)
+
 module _ {F : Frame} {cs : List Constant} {ks : List ℕ} {t : L} (S : Search F cs ks t) (sound : Sound (F .pattern)) (there : F .skip < F .pattern .bodies)
     (valid : Valid (F .pattern) (F .skip) (F .pattern .plan (F .skip))) where
   abbrev p : Pattern
@@ -51,15 +73,6 @@ module _ {F : Frame} {cs : List Constant} {ks : List ℕ} {t : L} (S : Search F 
 
   -- ---- before the first step
 
-  at-none : Nothing → At S unbound8 [] unbound8
-  at-none c = record { carried = c; long = refl; marks = record { of = λ v z. z }; back = record { of = λ v z. z } }
-
-  begins-of : hold F (plan .ground) unbound8 ≡ true → Nothing
-  begins-of h = begun (λ i l e. hold-of S unbound8 (plan .ground) h i (valid .ground .1 i (l, e)))
-
-  begins-in : Nothing → hold F (plan .ground) unbound8 ≡ true
-  begins-in c = hold-in S unbound8 (plan .ground) (λ i m. let n = valid .ground .0 i m in carried-fits S c .1 i (n .0) (n .1))
-
   firsts : Exactly p (Newly p unbound8 (marked unbound8 (p .body (F .skip)))) (plan .first)
   firsts = subst (λ (β : List ℕ). Exactly p (Newly p unbound8 β) (plan .first)) given-is (valid .first)
 
@@ -73,12 +86,12 @@ module _ {F : Frame} {cs : List Constant} {ks : List ℕ} {t : L} (S : Search F 
   Started q τ = Carried F t ((bodyFact (F .skip), q) ∷ []) τ
 
   starts-of : {q τ : List ℕ} → Given q → first-match q τ → Nothing → hold F (plan .first) τ ≡ true → Started q τ
-  starts-of o e c h = further c (record { offered = o; fit = e; tested = tested-of S (at-none c) o e (plan .first) firsts h })
+  starts-of o e c h = further c (record { offered = o; fit = e; tested = tested-of S (at-none S c) o e (plan .first) firsts h })
 
   at-start : {q τ : List ℕ} → Started q τ → At S (given p (F .skip)) ((bodyFact (F .skip), q) ∷ []) τ
   at-start {q} {τ} c =
       let n = one-match c in
-      let none = at-none (before c) in
+      let none = at-none S (before c) in
       subst (λ (β : List ℕ). At S β ((bodyFact (F .skip), q) ∷ []) τ) (sym given-is) (at-next S none (n .offered) (n .fit) (n .tested))
     where
       before : Started q τ → Nothing
@@ -95,15 +108,6 @@ module _ {F : Frame} {cs : List Constant} {ks : List ℕ} {t : L} (S : Search F 
   abbrev onward : List ℕ → L
   onward q = follow (fits (may F) unbound8 (bodyRow F (F .skip)) (factOf q)) (searchBy F t plan)
 
-  steps-of : {r : List ℕ} (τ : List ℕ) → In r (searchBy F t plan τ) → (hold F (plan .first) τ ≡ true) × In r (search F t (plan .steps) τ)
-  unfolding searchBy
-  steps-of {r} τ m = go (hold F (plan .first) τ) refl m
-    where
-      go : (b : Bool) → hold F (plan .first) τ ≡ b → In r (cond b (search F t (plan .steps) τ) [])
-          → (hold F (plan .first) τ ≡ true) × In r (search F t (plan .steps) τ)
-      go true e m = (e, m)
-      go false e m = absurd (List·Memᴰ·not-nil m)
-
   listed-of : {q r : List ℕ} → In r (condAt F t (factOf q)) → (τ : List ℕ) × Listed q r τ
   unfolding condAt grounded
   listed-of {q} {r} m = go (ltb (F .skip) (p .bodies)) (hold F (plan .ground) unbound8) refl m
@@ -111,7 +115,7 @@ module _ {F : Frame} {cs : List Constant} {ks : List ℕ} {t : L} (S : Search F 
       go : (b g : Bool) → hold F (plan .ground) unbound8 ≡ g → In r (cond b (cond g (onward q) []) []) → (τ : List ℕ) × Listed q r τ
       go true true e m =
           let τ = follow-of (fits (may F) unbound8 (bodyRow F (F .skip)) (factOf q)) (searchBy F t plan) r m in
-          let s = steps-of (τ .0) (τ .2) in
+          let s = steps-of S plan (τ .0) (τ .2) in
           (τ .0, record { ground = e; fit = τ .1; first = s .0; found = s .1 })
       go true false e m = absurd (List·Memᴰ·not-nil m)
       go false g e m = absurd (List·Memᴰ·not-nil m)
@@ -125,7 +129,7 @@ module _ {F : Frame} {cs : List Constant} {ks : List ℕ} {t : L} (S : Search F 
   heads-of : {q r : List ℕ} → Given q → In r (condAt F t (factOf q)) → Ended q r
   heads-of {q} {r} o m =
       let l = listed-of {q = q} m in
-      let c = starts-of o (l .1 .fit) (begins-of (l .1 .ground)) (l .1 .first) in
+      let c = starts-of o (l .1 .fit) (begins-of S valid (l .1 .ground)) (l .1 .first) in
       let v = head-visits S (plan .steps) (l .1 .found) in
       let came = visits-at S (at-start c) (valid .steps) (v .1) in
       let given = came .old (List·Memᴰ·head refl) in (
@@ -170,7 +174,7 @@ module _ {F : Frame} {cs : List Constant} {ks : List ℕ} {t : L} (S : Search F 
       let τ =
       fits-some (may F) (bodyRow F (F .skip)) (factOf q) unbound8 θ (S .rows (F .skip) there) start row
       (λ v l k. f .kinds v (row-bound (bodyRow F (F .skip)) (factOf q) θ ground-places row v k)) in
-      let none = at-none (begins-of ground) in
+      let none = at-none S (begins-of S valid ground) in
       let g = fitted S none o (τ .1) in
       let marks = subst (λ (β : List ℕ). Marks β (τ .0)) (sym given-is) (marks-now S none o (τ .1)) in
       let binds = complete (S .over) θ (fair S f) (E .whole) in
@@ -182,8 +186,8 @@ module _ {F : Frame} {cs : List Constant} {ks : List ℕ} {t : L} (S : Search F 
   pub carried-exactly : CarriedExactly F t
   carried-exactly = record {
     fit = λ ms θ. (carried-fits S, λ h. fits-carried S ms θ (h .0) (h .1));
-    begins = (begins-of, begins-in);
-    starts = λ o e c. (starts-of o e c, λ d. tested-in S (at-none c) o e (plan .first) firsts (carried-fits S d .1));
+    begins = (begins-of S valid, begins-in S valid);
+    starts = λ o e c. (starts-of o e c, λ d. tested-in S (at-none S c) o e (plan .first) firsts (carried-fits S d .1));
     visited = λ c v. let came = visits-at S (at-start c) (valid .steps) v in (came .matches, came .now .carried);
     stepped = λ c v o. let came = visits-at S (at-start c) (valid .steps) v in step-exact S (came .now) (came .steps .0) o;
     heads = λ o. (heads-of o, heads-in o);

@@ -18,7 +18,7 @@ use Rattle.fact.specs.Places.{factOf}
 use Rattle.rules.specs.Matching.{at, fits}
 use Rattle.rules.specs.Plan.{Part, bodyFact, variable, Mode, every, enough, once, look, finds, Step, Plan}
 use Rattle.rules.specs.Patterns.{Frame}
-use Rattle.rules.specs.Cond.{may, rowOf, placesOf, isLate, sourceOf, hold, carried, search, headEntry, condAt, unbound8}
+use Rattle.rules.specs.Cond.{may, rowOf, placesOf, isLate, sourceOf, hold, carried, search, headEntry, condAt, condFirst, unbound8}
 use Rattle.rules.specs.Valid.{There}
 
 -- ---- no constraint is tested twice
@@ -117,3 +117,21 @@ module _ (F : Frame) (t : List (List ℕ)) where
     -- the heads that are listed are those of the carried bindings that are whole
     pub heads : {q r : List ℕ} → Offered (bodyFact (F .skip)) q
         → List·Memᴰ r (condAt F t (factOf q)) ↔ ((ms : List Match) × (θ : List ℕ) × Ends (given q) ms θ r)
+
+  -- ---- an assertion without a body: the search begins with nothing matched
+
+  abbrev alone : Plan
+  alone = F .pattern .plan 0
+
+  -- a carried binding that has every variable bound; and its head is r
+  pub record EndsAlone (ms : List Match) (θ r : List ℕ) : Type 0 where
+    pub carried : Carried ms θ
+    pub whole : (v : ℕ) → v < 8 → F .pattern .kind v ≢ 0 → at θ v ≢ unbound
+    pub head : r ≡ headEntry F θ
+
+  pub record CarriedAlone : Type 0 where
+    pub begins : (hold F (alone .ground) unbound8 ≡ true) ↔ Carried [] unbound8
+    pub visited : {θ : List ℕ} {ss : List Step} → Carried [] unbound8 → Visits (alone .steps) unbound8 ss θ → (ms : List Match) × Carried ms θ
+    pub stepped : {θ : List ℕ} {s : Step} {ss : List Step} → Carried [] unbound8 → Visits (alone .steps) unbound8 (s ∷ ss) θ
+        → {y σ : List ℕ} → Offered (s .part) y → List·Memᴰ σ (carried F s θ y) ↔ Next θ (s .part) y σ
+    pub heads : {r : List ℕ} → List·Memᴰ r (condFirst F) ↔ ((ms : List Match) × (θ : List ℕ) × EndsAlone ms θ r)
