@@ -6,7 +6,8 @@ usage: tools/respell.py [--check]      at the top of the repository, once, after
 A definition, field or constructor such as `labelByte` becomes `label_byte` wherever the word stands in crates/, docs/ and README.md.
 A lemma such as `all-few`, declared in a file of specs/ or right in proofs/, becomes `all_few` in that file and where it is imported from it;
 what Rattle makes (a goal's name, a step's, a function's `-spec`) keeps its dashes. A name that a file imports from the library stays there.
-A line that begins 'clash:' names a new spelling that a file has already; that name is spelled by the table CLASHES below.
+A lemma whose new spelling is a definition's gets `_law` behind it; a definition whose new spelling is a field's stands in the table CLASHES below.
+A line that begins 'clash:' names a new spelling that a file has already: a function of the code, whose name no clause can mean, or something to look at.
 """
 import os
 import re
@@ -18,14 +19,11 @@ CLASHES = {
     "assertionAt": "assertion_read_at",
     "constantAt": "constant_read_at",
 }
-# Lemmas that would have, or have since port.py, the name of a definition: each gets `_law` behind it.
-LAWS = set(
-    "kind-of any-of all-of all-bytes bytes-at end-of tree-of sum-of constant-at no-part part-at code-of index-of laid-of first-of".split()
-    + "term_of in_place no_number left_in numbers_of first_round ordered_of free_all".split()
-)
+# Lemmas that would have, or have since port.py, the name of a definition: each gets `_law` behind it. main() fills it.
+LAWS = set()
 
 WORD = re.compile(r'[^\s(){}.;,@"«»\[\]`]+')
-DECLARED = re.compile(r"^ *(?:(?:abbrev|unfoldable|pub|rec|opaque|where|let) +)*([^\s:(){}=.;,@\"]+)(?: \{[^{}\n]*\})* +: ", re.M)
+DECLARED = re.compile(r"^ *(?:(?:abbrev|unfoldable|pub|rec|opaque|where|let) +)*([^\s:(){}=.;,@\"]+(?: [^\s:(){}=.;,@\"]+)*)(?: \{[^{}\n]*\})* +: ", re.M)
 USE = re.compile(r"\buse ([^\s;{]+?)(?:\.(\{[^}]*\}))?(?: as ([^\s;]+))?;?$", re.M)
 CAMEL = re.compile(r"^[a-z][a-z0-9']*(?:-[a-z0-9']+)*[A-Z]|^[a-z].*[a-z0-9][A-Z]")
 
@@ -76,13 +74,18 @@ def main():
     declared = {}
     for p, t in texts.items():
         if is_shared(p):
-            declared[module(p)] = set(DECLARED.findall(bare(t)))
-    lemmas = {m: {n for n in names if "-" in n or n in LAWS and ".proofs." in m} for m, names in declared.items()}
+            declared[module(p)] = {n for names in DECLARED.findall(bare(t)) for n in names.split()}
     camel = {}
     for names in declared.values():
         for n in names:
             if CAMEL.match(n) and not n[0].isupper():
                 camel[n] = snake(n)
+    defined = set(camel.values())
+    defined.update(snake(n) for m, names in declared.items() if ".specs." in m for n in names)
+    for m, names in declared.items():
+        if ".proofs." in m:
+            LAWS.update(n for n in names if n not in camel and ("-" in n and n.replace("-", "_") in defined or n in camel.values()))
+    lemmas = {m: {n for n in names if "-" in n or n in LAWS and ".proofs." in m} for m, names in declared.items()}
     changed = 0
     for p, t in texts.items():
         b = bare(t)

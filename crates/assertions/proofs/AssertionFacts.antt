@@ -20,7 +20,7 @@ use Rattle.model.specs.Safety.{is_flat, safe_head, safe_assertion}
 use Rattle.model.specs.Bytes.{byte_at, u16_at, choose, both, Reading, got, refused, and_then}
 use Rattle.model.specs.Readings.{expr_at, constraints_at, levels_at, fact_at, fact_end, facts_at, facts_end, body_at, tests_at, assertion_read_at, assertion_end}
 use Rattle.model.specs.Forms as forms
-use Rattle.model.specs.Forms.{ends, broken, noVerb, then_form, operators_form, fact_form, facts_form, tests_form, body_form, statement_form, assertion_form}
+use Rattle.model.specs.Forms.{ends, broken, no_verb, then_form, operators_form, fact_form, facts_form, tests_form, body_form, statement_form, assertion_form}
 use Rattle.model.specs.Policies.{judged, assertion_by, assertion_item}
 use Rattle.model.specs.Records.{Arity}
 use Rattle.kinds.specs.Cells.{Ask, feed, nothing}
@@ -64,22 +64,22 @@ code_then : (φ : forms.Form) (ψ : Form) (f : ℕ → Form) (g : ℕ → forms.
 unfolding then_by then_form code_form
 code_then (ends p) ψ f g e h = rw e (h p)
 code_then broken ψ f g e h = rw e
-code_then noVerb ψ f g e h = rw e
+code_then no_verb ψ f g e h = rw e
 
 module _ {cs : List Constant} {vs : List Verb} {ks sg : List ℕ} (X : Tables cs vs ks sg) (s : List ℕ) where
-  tests_form : (e p : ℕ) → tests_form_by s e p ≡ code_form (tests_form vs s e p)
+  tests_form_law : (e p : ℕ) → tests_form_by s e p ≡ code_form (tests_form vs s e p)
   unfolding tests_form_by tests_form
-  tests_form e p = code_tests _ _ _ _ e
+  tests_form_law e p = code_tests _ _ _ _ e
 
-  body_form : (e p : ℕ) → body_form_by sg s e p ≡ code_form (body_form vs s e p)
+  body_form_law : (e p : ℕ) → body_form_by sg s e p ≡ code_form (body_form vs s e p)
   unfolding body_form_by body_form
-  body_form e p = code_broken _ _ _ (code_broken _ _ _ (code_then _ _ _ _ (phrase.forms_are X s e (byte_at s p) (p + 1)) (tests_form e)))
+  body_form_law e p = code_broken _ _ _ (code_broken _ _ _ (code_then _ _ _ _ (phrase.forms_are X s e (byte_at s p) (p + 1)) (tests_form_law e)))
 
-  pub assertion_form : (at : ℕ) → assertion_form_by sg s at ≡ code_form (assertion_form vs s at)
+  pub assertion_form_law : (at : ℕ) → assertion_form_by sg s at ≡ code_form (assertion_form vs s at)
   unfolding assertion_form_by assertion_form statement_form_by statement_form
-  assertion_form at =
+  assertion_form_law at =
       let end = assertion_end s at in
-      code_broken _ _ _ (code_broken _ _ _ (code_broken _ _ _ (code_then _ _ _ _ (phrase.form_is X s end (at + 2 + 6)) (body_form end))))
+      code_broken _ _ _ (code_broken _ _ _ (code_broken _ _ _ (code_then _ _ _ _ (phrase.form_is X s end (at + 2 + 6)) (body_form_law end))))
 
 -- ---- what an assertion of right form is sure to have
 
@@ -134,7 +134,7 @@ module _ {cs : List Constant} {vs : List Verb} {ks sg : List ℕ} (X : Tables cs
   asks_are : statement_asks ks sg s (at + 8) ≡ asks_for cs (demands_of vs stated)
   unfolding statement_asks body_asks tests_by assertion_read_at body_at tests_at
   asks_are =
-      rw (phrase.next_is X s (at + 8), phrase.nexts_are X _ s _, phrase.fact_asks X s (at + 8), phrase.facts_asks X s _ _, phrase.tests_asks X s _ _)
+      rw (phrase.next_is X s (at + 8), phrase.nexts_are X _ s _, phrase.fact_asks_law X s (at + 8), phrase.facts_asks_law X s _ _, phrase.tests_asks_law X s _ _)
       (sym (ap (λ (l : List Ask). l ++ each stated.tests (ask_test cs))
       (map-append (ask_place cs) (places vs stated.head) (each stated.body (places vs)))
       ∙ append_assoc (map (ask_place cs) (places vs stated.head)) (map (ask_place cs) (each stated.body (places vs))) (each stated.tests (ask_test cs))))
@@ -224,15 +224,15 @@ module _ {cs : List Constant} {vs : List Verb} {ks sg : List ℕ} (X : Tables cs
   unfolding head_safe_by assertion_read_at fact_at
   head_is = rw (body_is none, phrase.fact_is X s (at + 8)) (head_levels vs s (byte_at s (at + 8)) (at + 8 + 1) in_body head_low)
 
-  tests_at : tests_by sg s (fact_next sg s (at + 8)) ≡ tests_at vs s at
+  tests_at_law : tests_by sg s (fact_next sg s (at + 8)) ≡ tests_at vs s at
   unfolding tests_by tests_at body_at
-  tests_at = rw (phrase.next_is X s (at + 8), phrase.nexts_are X _ s _)
+  tests_at_law = rw (phrase.next_is X s (at + 8), phrase.nexts_are X _ s _)
 
   tests_are : tests_safe_by sg s (at + 8) (fact_next sg s (at + 8)) (tests_by sg s (fact_next sg s (at + 8)))
       ≡ among (each said.tests vars_test) (vars_in said.head ++ in_body)
   unfolding tests_safe_by assertion_read_at
   tests_are =
-      rw (tests_at, body_is _, phrase.fact_is X s (at + 8))
+      rw (tests_at_law, body_is _, phrase.fact_is X s (at + 8))
       (ap (within 8 (marked (each said.tests vars_test) none)) (sym (marked_append (vars_in said.head) in_body none))
       ∙ within_is (each said.tests vars_test) (vars_in said.head ++ in_body) tests_low)
 
@@ -259,9 +259,9 @@ module _ {cs : List Constant} {vs : List Verb} {ks sg : List ℕ} (X : Tables cs
 
   pub item_is : (at : ℕ) (before : List Assertion) → item_by ks sg s (assertion_form_by sg s at) at ≡ step (assertion_item cs vs s before at)
   unfolding assertion_item assertion_by item_by code_form step
-  item_is at before = rw (assertion_form X s at) (go (assertion_form vs s at) refl)
+  item_is at before = rw (assertion_form_law X s at) (go (assertion_form vs s at) refl)
     where
       go : (φ : forms.Form) → assertion_form vs s at ≡ φ → item_by ks sg s (code_form φ) at ≡ step (assertion_by φ cs vs (assertion_read_at vs s at) at)
       go (ends e) h = judged_is at e (shaped vs s at e h)
       go broken h = refl
-      go noVerb h = refl
+      go no_verb h = refl

@@ -11,7 +11,7 @@ use borrow.Author.Tests.{eq-eqb, ne_eqb, eqb-true, eqb-false, lt-ltb, le-ltb}
 use Rattle.model.specs.Calendar.{leap_year, year_days, month_days, Date, date, date_of, days_of_years, days_of_months, day_of, one_year_after, year_after}
 use Rattle.model.specs.Years.{IsDate}
 use Rattle.model.proofs.CalendarFacts.{months, twelve, forth}
-use Rattle.model.proofs.DaysOfYear.{both, more, base, late, before, year_days}
+use Rattle.model.proofs.DaysOfYear.{both, more, base, late, before, year_days_law}
 use Rattle.model.proofs.Years.{dates_are_days, same_date}
 
 -- ---- leap years, test by test
@@ -62,7 +62,7 @@ years_closed zero h = refl
 years_closed (suc k) h = go (ℕ_discrete (k % 4) 0) (years_closed k (omega arith))
   where
     days : year_days (2000 + k) ≡ 365 + more (eqb (k % 4) 0)
-    days = year_days (2000 + k) ∙ ap (λ (b : Bool). 365 + more b) (fourth k (omega arith))
+    days = year_days_law (2000 + k) ∙ ap (λ (b : Bool). 365 + more b) (fourth k (omega arith))
 
     go : Dec (k % 4 ≡ 0) → 365 * k + (k + 3) / 4 ≡ days_of_years k → 365 * suc k + (suc k + 3) / 4 ≡ days_of_years k + year_days (2000 + k)
     go (yes z) e = let one : more (eqb (k % 4) 0) ≡ 1 = ap more (eq-eqb (k % 4) 0 z) in omega (arith, e, days, one, z)
@@ -117,13 +117,13 @@ year_found n h = go (4 * n / 1461) (omega arith) (omega arith) (omega arith) (�
     go : (k : ℕ) → k ≤ 99 → 1461 * k ≤ 4 * n → 4 * n < 1461 * k + 1461 → Dec (k % 4 ≡ 0) → InYear n k
     go k few a b (yes z) =
         let closed = years_closed k (omega (arith, few)) in
-        let days : year_days (2000 + k) ≡ 366 = year_days (2000 + k) ∙ ap (λ (b : Bool). 365 + more b) (fourth k (omega (arith, few)) ∙ eq-eqb (k % 4) 0 z) in
+        let days : year_days (2000 + k) ≡ 366 = year_days_law (2000 + k) ∙ ap (λ (b : Bool). 365 + more b) (fourth k (omega (arith, few)) ∙ eq-eqb (k % 4) 0 z) in
         let q = quarters k z in
         let parts : k ≡ 4 * (k / 4) = omega (arith, z) in
         (omega (arith, closed, q, parts, a), omega (arith, closed, q, parts, days, b), few)
     go k few a b (no z) =
         let closed = years_closed k (omega (arith, few)) in
-        let days : year_days (2000 + k) ≡ 365 = year_days (2000 + k) ∙ ap (λ (b : Bool). 365 + more b) (fourth k (omega (arith, few)) ∙ ne_eqb (k % 4) 0 z) in
+        let days : year_days (2000 + k) ≡ 365 = year_days_law (2000 + k) ∙ ap (λ (b : Bool). 365 + more b) (fourth k (omega (arith, few)) ∙ ne_eqb (k % 4) 0 z) in
         let q = begun k z in
         let least : 4 * (k / 4) + 1 ≤ k = omega (arith, z) in
         let most : k ≤ 4 * (k / 4) + 3 = omega arith in

@@ -16,10 +16,10 @@ use Rattle.model.proofs.WithdrawalFacts.{left↔}
 use Rattle.theorems.proofs.Theorems as M
 use Rattle.demands.specs.Demands as Q
 use Rattle.demands.specs.Demands.{TableOf, AnswersOf, AnsweredAs, Unmarked}
-use Rattle.demands.proofs.Sides.{number_of, no_refusal, word_decides, made_answered, policy_kept, policy_side, request_kept, request_side}
-use Rattle.demands.proofs.Sides.{withdrawals_kept, withdrawals_side, hierarchy_kept, hierarchy_side, was_accepted}
-use Rattle.demands.proofs.Marking.{marks_of, adds_by}
-use Rattle.demands.proofs.Holding.{counts↔, entry_derives, first_round_law, table_fits, record_length, table_of, answers_of}
+use Rattle.demands.proofs.Sides.{number_of, no_refusal, word_decides, made_answered, policy_kept, policy_side_law, request_kept, request_side_law}
+use Rattle.demands.proofs.Sides.{withdrawals_kept, withdrawals_side_law, hierarchy_kept, hierarchy_side_law, was_accepted}
+use Rattle.demands.proofs.Marking.{marks_of_law, adds_by}
+use Rattle.demands.proofs.Holding.{counts↔, entry_derives, first_round_law, table_fits, record_length, table_of, answers_of_law}
 
 -- ---- by the outcome that is meant
 
@@ -39,17 +39,17 @@ module _ (l : Lent) (R : Read) (h : Inputs l.slices R) where
   abbrev IsMeant : Outcome → Type 0
   IsMeant o = MeantBy R (capacity facts) (room answers) o
 
-  eight_leaves : {o : Outcome} → IsMeant o → made ≡ by o → made.verdict ≡ refusal 8 0 0 → made ≡ report (refusal 8 0 0) 0 0 0 (cleared facts) answers
-  eight_leaves (full_table m) e v = e
-  eight_leaves (full_answers a f m) e v = absurd (let z = number_of 9 0 0 8 0 0 (sym (ap (λ (ρ : Report). ρ.verdict) e) ∙ v) in omega arith)
-  eight_leaves (all_listed {A = A} a f b g) e v = absurd (no_refusal (word A) 8 0 0 (word_decides A) (sym (ap (λ (ρ : Report). ρ.verdict) e) ∙ v))
+  eight_leaves_law : {o : Outcome} → IsMeant o → made ≡ by o → made.verdict ≡ refusal 8 0 0 → made ≡ report (refusal 8 0 0) 0 0 0 (cleared facts) answers
+  eight_leaves_law (full_table m) e v = e
+  eight_leaves_law (full_answers a f m) e v = absurd (let z = number_of 9 0 0 8 0 0 (sym (ap (λ (ρ : Report). ρ.verdict) e) ∙ v) in omega arith)
+  eight_leaves_law (all_listed {A = A} a f b g) e v = absurd (no_refusal (word A) 8 0 0 (word_decides A) (sym (ap (λ (ρ : Report). ρ.verdict) e) ∙ v))
 
-  nine_leaves : {o : Outcome} → IsMeant o → (by o).verdict ≡ refusal 9 0 0
+  nine_leaves_law : {o : Outcome} → IsMeant o → (by o).verdict ≡ refusal 9 0 0
       → TableOf l R (by o) × ((by o).answers ≡ 0) × ((by o).answer_buffer ≡ cleared answers)
-  nine_leaves (full_table m) v = absurd (let z = number_of 8 0 0 9 0 0 v in omega arith)
-  nine_leaves (full_answers {F} a f m) v =
+  nine_leaves_law (full_table m) v = absurd (let z = number_of 8 0 0 9 0 0 v in omega arith)
+  nine_leaves_law (full_answers {F} a f m) v =
       (table_of R l h F f (table_fits R (capacity facts) F a f) (refusal 9 0 0) 0 (cleared answers), refl, refl)
-  nine_leaves (all_listed {A = A} a f b g) v = absurd (no_refusal (word A) 9 0 0 (word_decides A) v)
+  nine_leaves_law (all_listed {A = A} a f b g) v = absurd (no_refusal (word A) 9 0 0 (word_decides A) v)
 
   both_fit : {o : Outcome} → IsMeant o → IsDecision (by o).verdict → AtMost (capacity facts) (DerivableIn R) × AtMost (room answers) (AnswerIn R)
   both_fit (full_table m) d = absurd d
@@ -68,7 +68,7 @@ module _ (l : Lent) (R : Read) (h : Inputs l.slices R) where
   listed : {o : Outcome} → IsMeant o → made ≡ by o → IsDecision (by o).verdict → AnswersOf l R (by o)
   listed (full_table m) e d = absurd d
   listed (full_answers a f m) e d = absurd d
-  listed (all_listed {F} {A} a f b g) e d = answers_of R l A g b (word A) _ _ _ (subst Told e (M.allows l R h a b))
+  listed (all_listed {F} {A} a f b g) e d = answers_of_law R l A g b (word A) _ _ _ (subst Told e (M.allows l R h a b))
 
 -- ---- demand 1
 
@@ -77,21 +77,21 @@ module _ (l : Lent) where
   answered_as = record {
     answered = made_answered l;
     few_rounds = M.rounds_at_most_facts l;
-    policy_side = policy_side l;
+    policy_side = policy_side_law l;
     policy_keeps = policy_kept l;
-    request_side = request_side l;
+    request_side = request_side_law l;
     request_keeps = request_kept l;
-    withdrawals_side = withdrawals_side l;
+    withdrawals_side = withdrawals_side_law l;
     withdrawals_keeps = withdrawals_kept l;
-    hierarchy_side = λ P q ws h k w. hierarchy_side l P q h k ws w;
+    hierarchy_side = λ P q ws h k w. hierarchy_side_law l P q h k ws w;
     hierarchy_keeps = λ P q ws h k w. hierarchy_kept l P q h k ws w;
     eight = M.eight l;
-    eight_leaves = λ R h v. let m = M.meaning l R h in eight_leaves l R h m.2 m.1 v;
+    eight_leaves = λ R h v. let m = M.meaning l R h in eight_leaves_law l R h m.2 m.1 v;
     nine = M.nine l;
     nine_leaves = λ R h v.
         let m = M.meaning l R h in
         subst (λ (ρ : Report). TableOf l R ρ × (ρ.answers ≡ 0) × (ρ.answer_buffer ≡ cleared l.answer_buffer)) (sym m.1)
-        (nine_leaves l R h m.2 (sym (ap (λ (ρ : Report). ρ.verdict) m.1) ∙ v));
+        (nine_leaves_law l R h m.2 (sym (ap (λ (ρ : Report). ρ.verdict) m.1) ∙ v));
     decides = (
       λ d.
           let r = was_accepted l d in
@@ -189,7 +189,7 @@ versions_call l other R ρ ρ' c c' h a p d d' θ k = reported_more c c' θ (λ 
 -- ---- whose words count
 
 pub the_marks : Q.TheMarks
-the_marks s R marks κ c h = marks_of s R marks h κ c
+the_marks s R marks κ c h = marks_of_law s R marks h κ c
 
 pub unmarked_call : Q.UnmarkedCall
 unmarked_call l longer marks R L κ ρ ρ' k c c' h a x =

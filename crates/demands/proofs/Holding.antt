@@ -20,14 +20,14 @@ use Rattle.model.specs.Rounds.{last_round}
 use Rattle.model.specs.Steps.{eq_said, step}
 use Rattle.model.specs.Deciding.{counted_in}
 use Rattle.model.specs.Withdrawals.{left_in}
-use Rattle.model.proofs.WithdrawalFacts.{counted_in}
+use Rattle.model.proofs.WithdrawalFacts.{counted_in_law}
 use Rattle.model.specs.Decision.{Slices, Lent, Verdict, allow, deny, report, capacity, room, at_front}
 use Rattle.model.specs.Inputs.{Inputs, DerivableIn, EntryIn, AnswerIn, InReach, answer_in}
 use Rattle.model.proofs.Order.{before_irrefl, ascends_distinct}
 use Rattle.model.proofs.RoundFacts as S
-use Rattle.model.proofs.BindingFacts.{bindings_of}
+use Rattle.model.proofs.BindingFacts.{bindings_of_law}
 use Rattle.model.proofs.StepFacts.{eq_said_of, eq_said_refl, step_of, step_in}
-use Rattle.model.proofs.DecisionFacts.{slice_by_slice, get_d_in, in_get_d}
+use Rattle.model.proofs.DecisionFacts.{slice_by_slice_law, get_d_in, in_get_d}
 use Rattle.theorems.proofs.Theorems.{computed_reach}
 use Rattle.demands.specs.Demands.{record_in, TableOf, AnswersOf}
 use Rattle.demands.proofs.Blocks.{block_at, blocks_length, filled_is, ascends_at}
@@ -90,8 +90,8 @@ module _ (R : Read) where
   module _ (s : Slices) (h : Inputs s R) where
     pub record_length : (e : Entry) → EntryIn R e → length (record_of e) ≡ record_bytes
     record_length e f =
-        let read = (slice_by_slice s R h).read_as in
-        ap (λ (n : ℕ). suc (suc n)) (key_length e.1 (shaped W 𝒜 (λ a m. policy_formed s.policy R.policy read a (counted_in R a m)) e.1
+        let read = (slice_by_slice_law s R h).read_as in
+        ap (λ (n : ℕ). suc (suc n)) (key_length e.1 (shaped W 𝒜 (λ a m. policy_formed s.policy R.policy read a (counted_in_law R a m)) e.1
         (entry_derives e.0 e.1 f)))
 
   module _ (l : Lent) (h : Inputs l.slices R) where
@@ -126,7 +126,7 @@ module _ (R : Read) where
   -- ---- answers within their room
 
   binding_length : (θ : List ℕ) → AnswerIn R θ → length θ ≡ answer_bytes
-  binding_length θ s = (bindings_of W.constants (free_kinds W R.request.node) θ s.0).0
+  binding_length θ s = (bindings_of_law W.constants (free_kinds W R.request.node) θ s.0).0
 
   module _ (l : Lent) (A : List (List ℕ)) (g : Enumerates itself (AnswerIn R) A) (b : AtMost (room l.answer_buffer) (AnswerIn R)) where
     abbrev answers : List ℕ
@@ -138,10 +138,10 @@ module _ (R : Read) where
     at : (i : ℕ) → i < length A → answer_in (at_front answers (answers_bytes A)) i ≡ get_or A i []
     at i k = block_at answer_of answer_bytes [] A _ long i k
 
-    pub answers_of : (v : Verdict) (n r : ℕ) (facts : List ℕ) → ((v ≡ allow) ↔ ((θ : List ℕ) × AnswerIn R θ))
+    pub answers_of_law : (v : Verdict) (n r : ℕ) (facts : List ℕ) → ((v ≡ allow) ↔ ((θ : List ℕ) × AnswerIn R θ))
         × ((v ≡ deny) ↔ (¬ ((θ : List ℕ) × AnswerIn R θ)))
         → AnswersOf l R (report v n r (length A) facts (at_front answers (answers_bytes A)))
-    answers_of v n r facts w =
+    answers_of_law v n r facts w =
         let fits : length A ≤ room answers = b A (ascends_distinct itself A g.ascends) g.only in
         record {
           allows = w.0;

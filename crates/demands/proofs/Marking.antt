@@ -75,8 +75,8 @@ module _ (s : Slices) (R : Read) (marks : List ℕ) (h : Inputs s R) where
     );
   }
 
-  pub marks_of : (κ : Reached) → κ ≡ whose_words s marks → MarksOf R marks κ
-  marks_of κ c = subst (MarksOf R marks) (sym (c ∙ given)) marks_given
+  pub marks_of_law : (κ : Reached) → κ ≡ whose_words s marks → MarksOf R marks κ
+  marks_of_law κ c = subst (MarksOf R marks) (sym (c ∙ given)) marks_given
 
 -- ---- added assertions, by another property of them
 

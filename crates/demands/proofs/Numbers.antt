@@ -9,8 +9,8 @@ use Rattle.model.specs.Lists.{member}
 use Rattle.model.specs.Syntax.{Assertion, Withdrawal, Link, Constant, Verb, Request}
 use Rattle.model.specs.Kinds.{Demands}
 use Rattle.model.specs.Bytes.{byte_at, choose, Reading, got, refused, and_then}
-use Rattle.model.specs.Readings.{Sort, saysSort, testSort, allSort, anySort, notSort, existsSort, noSort, sort_of, assertion_read_at}
-use Rattle.model.specs.Forms.{Form, ends, broken, noVerb, assertion_form}
+use Rattle.model.specs.Readings.{Sort, says_sort, test_sort, all_sort, any_sort, not_sort, exists_sort, no_sort, sort_of, assertion_read_at}
+use Rattle.model.specs.Forms.{Form, ends, broken, no_verb, assertion_form}
 use Rattle.model.specs.Policies.{Item, contents, headed, ended, items_from, list_at, constant_item, verb_item, judged, assertion_by, assertion_item}
 use Rattle.model.specs.Policies.{assertions_from, verbs_from, constants_from, read_policy}
 use Rattle.model.specs.Nodes.{check_parts, fitted, check_says, check_test, check_by, check_node, safely, request_from, read_request}
@@ -76,7 +76,7 @@ assertion_numbers : (φ : Form) (cs : List Constant) (vs : List Verb) (a : Asser
 unfolding assertion_by judged
 assertion_numbers (ends e) cs vs a at = by_choice of_policy _ _ _ (by_choice of_policy _ _ _ tt tt) tt
 assertion_numbers broken cs vs a at = tt
-assertion_numbers noVerb cs vs a at = tt
+assertion_numbers no_verb cs vs a at = tt
 
 item_numbers : (cs : List Constant) (vs : List Verb) (s : List ℕ) (before : List Assertion) (at : ℕ) → RefusesBy of_policy (assertion_item cs vs s before at)
 unfolding assertion_item
@@ -112,22 +112,22 @@ module _ (cs : List Constant) (vs : List Verb) (s : List ℕ) where
   unfolding check_says
   says_numbers (ends e) D at = fitted_numbers _ at e
   says_numbers broken D at = tt
-  says_numbers noVerb D at = tt
+  says_numbers no_verb D at = tt
 
-  test_numbers : (D : Demands) (at : ℕ) → RefusesBy of_request (check_test cs vs s D at)
+  test_numbers_law : (D : Demands) (at : ℕ) → RefusesBy of_request (check_test cs vs s D at)
   unfolding check_test
-  test_numbers D at = by_choice of_request _ _ _ tt (by_choice of_request _ _ _ (fitted_numbers _ at (at + 6)) tt)
+  test_numbers_law D at = by_choice of_request _ _ _ tt (by_choice of_request _ _ _ (fitted_numbers _ at (at + 6)) tt)
 
   node_numbers : (σ : Sort) (f : Demands → ℕ → Reading Demands) → ((D : Demands) (p : ℕ) → RefusesBy of_request (f D p)) → (D : Demands) (at : ℕ)
       → RefusesBy of_request (check_by cs vs s σ f D at)
   unfolding check_by
-  node_numbers saysSort f h D at = says_numbers _ D at
-  node_numbers testSort f h D at = test_numbers D at
-  node_numbers allSort f h D at = by_choice of_request _ _ _ (parts_numbers f h _ D (at + 2)) tt
-  node_numbers anySort f h D at = by_choice of_request _ _ _ (parts_numbers f h _ D (at + 2)) tt
-  node_numbers notSort f h D at = h D (at + 1)
-  node_numbers existsSort f h D at = by_choice of_request _ _ _ (h D (at + 2)) tt
-  node_numbers noSort f h D at = tt
+  node_numbers says_sort f h D at = says_numbers _ D at
+  node_numbers test_sort f h D at = test_numbers_law D at
+  node_numbers all_sort f h D at = by_choice of_request _ _ _ (parts_numbers f h _ D (at + 2)) tt
+  node_numbers any_sort f h D at = by_choice of_request _ _ _ (parts_numbers f h _ D (at + 2)) tt
+  node_numbers not_sort f h D at = h D (at + 1)
+  node_numbers exists_sort f h D at = by_choice of_request _ _ _ (h D (at + 2)) tt
+  node_numbers no_sort f h D at = tt
 
   nodes_numbers : (d : ℕ) (D : Demands) (at : ℕ) → RefusesBy of_request (check_node cs vs s d D at)
   unfolding check_node

@@ -14,7 +14,7 @@ use Rattle.model.specs.Decision.{read_slices, Verdict, refusal, Report, capacity
 use Rattle.model.specs.Inputs.{ReadAs, AskedAs, WithdrawnAs, Inputs}
 use Rattle.theorems.specs.Theorems.{IsDecision}
 use Rattle.model.proofs.ListFacts.{member_of}
-use Rattle.model.proofs.DecisionFacts.{after_withdrawals, after_request, after_policy, on_policy, on_request, on_withdrawals}
+use Rattle.model.proofs.DecisionFacts.{after_withdrawals, after_request, after_policy, on_policy, on_request_law, on_withdrawals_law}
 use Rattle.demands.specs.Demands.{Answered}
 use Rattle.demands.proofs.Numbers.{RefusesBy, of_policy, of_request, of_withdrawals, of_hierarchy}
 use Rattle.demands.proofs.Numbers.{policy_numbers, request_numbers, withdrawals_numbers, hierarchy_numbers}
@@ -136,9 +136,9 @@ module _ (l : Lent) where
   unfolding decision read_slices sided
   policy_kept n p e = of_kept (read_slices s) l n 1 p (ap (λ (r : Reading Accepted). sided 1 r (λ (A : Accepted). after_policy s (policy_of A))) e)
 
-  pub policy_side : (n p : ℕ) → (made.verdict ≡ refusal n 1 p) ↔ (read_policy s.policy ≡ refused n p)
+  pub policy_side_law : (n p : ℕ) → (made.verdict ≡ refusal n 1 p) ↔ (read_policy s.policy ≡ refused n p)
   unfolding decision read_slices
-  policy_side n p = (
+  policy_side_law n p = (
     λ e. sided_refused 1 (λ (A : Accepted). after_policy s (policy_of A)) (read_policy s.policy) n p
         (λ A. let P = policy_of A in sided_other 2 (after_request s P) (request_under P s) n 1 p (λ z. omega arith)
         (λ q. later_sides P q n 1 p (λ z. omega arith) (λ z. omega arith))) (of_side (read_slices s) l n 0 p e),
@@ -150,9 +150,9 @@ module _ (l : Lent) where
   request_kept P h n p e =
       of_kept (read_slices s) l n 2 p (on_policy s P h ∙ ap (λ (r : Reading Request). sided 2 r (after_request s P)) e)
 
-  pub request_side : (P : Policy) → ReadAs s.policy P → (n p : ℕ) → (made.verdict ≡ refusal n 2 p) ↔ (request_under P s ≡ refused n p)
+  pub request_side_law : (P : Policy) → ReadAs s.policy P → (n p : ℕ) → (made.verdict ≡ refusal n 2 p) ↔ (request_under P s ≡ refused n p)
   unfolding decision
-  request_side P h n p = (
+  request_side_law P h n p = (
     λ e. sided_refused 2 (after_request s P) (request_under P s) n p (λ q. later_sides P q n 2 p (λ z. omega arith) (λ z. omega arith))
         (sym (on_policy s P h) ∙ of_side (read_slices s) l n 1 p e),
     λ e. ap (λ (ρ : Report). ρ.verdict) (request_kept P h n p e),
@@ -162,13 +162,13 @@ module _ (l : Lent) where
     pub withdrawals_kept : (n p : ℕ) → withdrawals_under P s ≡ refused n p → made ≡ untouched n 3 p l
     unfolding decision sided
     withdrawals_kept n p e =
-        of_kept (read_slices s) l n 3 p (on_request s P q h k ∙ ap (λ (r : Reading (List Withdrawal)). sided 3 r (after_withdrawals s P q)) e)
+        of_kept (read_slices s) l n 3 p (on_request_law s P q h k ∙ ap (λ (r : Reading (List Withdrawal)). sided 3 r (after_withdrawals s P q)) e)
 
-    pub withdrawals_side : (n p : ℕ) → (made.verdict ≡ refusal n 3 p) ↔ (withdrawals_under P s ≡ refused n p)
+    pub withdrawals_side_law : (n p : ℕ) → (made.verdict ≡ refusal n 3 p) ↔ (withdrawals_under P s ≡ refused n p)
     unfolding decision
-    withdrawals_side n p = (
+    withdrawals_side_law n p = (
       λ e. sided_refused 3 (after_withdrawals s P q) (withdrawals_under P s) n p (λ ws. last_side P q ws n 3 p (λ z. omega arith))
-          (sym (on_request s P q h k) ∙ of_side (read_slices s) l n 2 p e),
+          (sym (on_request_law s P q h k) ∙ of_side (read_slices s) l n 2 p e),
       λ e. ap (λ (ρ : Report). ρ.verdict) (withdrawals_kept n p e),
     )
 
@@ -176,14 +176,14 @@ module _ (l : Lent) where
       pub hierarchy_kept : (n p : ℕ) → hierarchy_under P s ≡ refused n p → made ≡ untouched n 4 p l
       unfolding decision sided
       hierarchy_kept n p e =
-          of_kept (read_slices s) l n 4 p (on_withdrawals s P q ws h k w
+          of_kept (read_slices s) l n 4 p (on_withdrawals_law s P q ws h k w
           ∙ ap (λ (r : Reading (List Link)). sided 4 r (λ (H : List Link). accepted (read P q ws H))) e)
 
-      pub hierarchy_side : (n p : ℕ) → (made.verdict ≡ refusal n 4 p) ↔ (hierarchy_under P s ≡ refused n p)
+      pub hierarchy_side_law : (n p : ℕ) → (made.verdict ≡ refusal n 4 p) ↔ (hierarchy_under P s ≡ refused n p)
       unfolding decision
-      hierarchy_side n p = (
+      hierarchy_side_law n p = (
         λ e. sided_refused 4 (λ (H : List Link). accepted (read P q ws H)) (hierarchy_under P s) n p (λ H. not_refused (read P q ws H) n 4 p)
-            (sym (on_withdrawals s P q ws h k w) ∙ of_side (read_slices s) l n 3 p e),
+            (sym (on_withdrawals_law s P q ws h k w) ∙ of_side (read_slices s) l n 3 p e),
         λ e. ap (λ (ρ : Report). ρ.verdict) (hierarchy_kept n p e),
       )
 

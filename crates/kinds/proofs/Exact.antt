@@ -235,9 +235,9 @@ cell_proper t G x l =
     (λ (h : x < 8). rw (choose_true (get_or t x 0) x (lt-ltb x 8 h)) (G.1 x h))
     (λ (h : 8 ≤ x). rw (choose_false (get_or t x 0) x (le-ltb x 8 h)) (fixed h (omega arith)))
 
-cell_kind : (t : List ℕ) (κ : List ℕ) → Solves κ t → (x : ℕ) → x ≤ 11 → cell_kind κ (cell_of t x) ≡ kind_in κ x
+cell_kind_law : (t : List ℕ) (κ : List ℕ) → Solves κ t → (x : ℕ) → x ≤ 11 → cell_kind κ (cell_of t x) ≡ kind_in κ x
 unfolding cell_of
-cell_kind t κ s x l =
+cell_kind_law t κ s x l =
     by_lt x 8
     (λ (h : x < 8). rw (choose_true (get_or t x 0) x (lt-ltb x 8 h)) (sym (s x h).0 ∙ sym (term_var κ x h)))
     (λ (h : 8 ≤ x). rw (choose_false (get_or t x 0) x (le-ltb x 8 h)) (kind_fixed κ x h (omega arith) ∙ sym (term_fixed κ x h)))
@@ -250,8 +250,8 @@ alike_exact t G l r =
     (λ (h : l ≤ 11). rw (choose_false (bad t) _ (le-ltb 11 l h)) (by_lt 11 r
     (λ (k : 11 < r). rw (choose_true (bad t) _ (lt-ltb 11 r k)) (failed t _ (λ κ K s q. let w : r ≤ 11 = q.1 in omega arith)))
     (λ (k : r ≤ 11). rw (choose_false (bad t) _ (le-ltb 11 r k)) (said t _ (λ κ. cell_kind κ (cell_of t l) ≡ cell_kind κ (cell_of t r)) _
-    (λ κ K s q. (h, k, sym (cell_kind t κ s l h) ∙ q ∙ cell_kind t κ s r k))
-    (λ κ K s q. cell_kind t κ s l h ∙ q.2 ∙ sym (cell_kind t κ s r k))
+    (λ κ K s q. (h, k, sym (cell_kind_law t κ s l h) ∙ q ∙ cell_kind_law t κ s r k))
+    (λ κ K s q. cell_kind_law t κ s l h ∙ q.2 ∙ sym (cell_kind_law t κ s r k))
     (merged_exact t G (cell_of t l) (cell_of t r) (cell_proper t G l h) (cell_proper t G r k))))))
 
 leader : (t : List ℕ) (a : ℕ) → a < 8 → Proper t a → get_or t a 0 ≡ a
@@ -290,8 +290,8 @@ numbered_exact t G l =
     by_lt 11 l
     (λ (h : 11 < l). rw (choose_true (bad t) _ (lt-ltb 11 l h)) (failed t _ (λ κ K s q. let w : l ≤ 11 = q.0 in omega arith)))
     (λ (h : l ≤ 11). rw (choose_false (bad t) _ (le-ltb 11 l h)) (said t _ (λ κ. 3 ≤ cell_kind κ (cell_of t l)) _
-    (λ κ K s q. (h, rw (cell_kind t κ s l h) at q))
-    (λ κ K s q. rw (cell_kind t κ s l h) q.1)
+    (λ κ K s q. (h, rw (cell_kind_law t κ s l h) at q))
+    (λ κ K s q. rw (cell_kind_law t κ s l h) q.1)
     (counted_exact t G (cell_of t l) (cell_proper t G l h))))
 
 asked_exact : (a : Ask) (t : List ℕ) → Good t → Exact t (asked a t) (λ κ. Meets κ a)

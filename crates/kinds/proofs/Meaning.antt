@@ -82,9 +82,9 @@ good_nothing = (refl, λ v l. rw (nothing_at v l) (leads l (nothing_at v l)))
 any_solves : (κ : List ℕ) → Solves κ nothing
 any_solves κ v l = rw (nothing_at v l) (sym (kind_var κ v l), λ h. absurd (omega arith))
 
-pub kind_term : (k : ℕ) → 1 ≤ k → k ≤ 4 → kind_term k ≡ k + 7
+pub kind_term_law : (k : ℕ) → 1 ≤ k → k ≤ 4 → kind_term k ≡ k + 7
 unfolding kind_term
-kind_term k l h = choose_false _ _ (le-ltb k 1 l) ∙ choose_false _ _ (le-ltb 4 k h)
+kind_term_law k l h = choose_false _ _ (le-ltb k 1 l) ∙ choose_false _ _ (le-ltb 4 k h)
 
 pub member_met : (κ : List ℕ) {q : Ask} {qs : List Ask} → Memᴰ q qs → MeetsAll κ qs → Meets κ q
 member_met κ (Memᴰ.head e) m = rw e m.0
@@ -149,7 +149,7 @@ module _ (qs : List Ask) where
   asked_kind e v k l lk hk ask = sole_kind e v k l (λ κ K m.
       let q = member_met κ ask m in
       let w : k + 7 - 7 ≡ k = omega arith in
-      sym (term_var κ v l) ∙ q.2 ∙ ap (kind_in κ) (kind_term k lk hk) ∙ term_fixed κ (k + 7) (omega arith) ∙ w)
+      sym (term_var κ v l) ∙ q.2 ∙ ap (kind_in κ) (kind_term_law k lk hk) ∙ term_fixed κ (k + 7) (omega arith) ∙ w)
 
 -- asks one after the other
 pub meets_append : (κ : List ℕ) (xs ys : List Ask) → MeetsAll κ (xs ++ ys) ↔ (MeetsAll κ xs × MeetsAll κ ys)

@@ -15,13 +15,13 @@ use Rattle.model.specs.Lists.{all, each}
 use Rattle.model.specs.Syntax.{Expr, con, var, today, Constraint, Constant, vars_of, vars_test}
 use Rattle.model.specs.Kinds.{Demands, kind_at, kind_under, in_place, operands, comparable, meets, fitting, kinds, occurring, kind_of}
 use Rattle.model.proofs.ListFacts.{and_of, and_in, or_of, or_left, or_right, eqb_in, each_of, all_of_law}
-use Rattle.model.proofs.KindFacts.{fitting↔, one_kind}
+use Rattle.model.proofs.KindFacts.{fitting↔, one_kind_law}
 use Rattle.wire.proofs.Reading.{choose_true, choose_false}
 use Rattle.kinds.specs.Cells.{Ask, same, number, feed, nothing}
 use Rattle.kinds.specs.Asks.{kind_term, var_term, term_of, place_term, ask_place, operator_asks, ask_test, asks_for, Regular}
 use Rattle.kinds.specs.Choices.{Choice, kind_in, Meets, MeetsAll}
 use Rattle.kinds.proofs.Exact.{term_var, term_fixed}
-use Rattle.kinds.proofs.Meaning.{kind_term, feed_law, sole_kind, member_met, meets_append}
+use Rattle.kinds.proofs.Meaning.{kind_term_law, feed_law, sole_kind, member_met, meets_append}
 use Rattle.model.proofs.Tests.{by_lt}
 use Rattle.model.proofs.ByteFacts.{below_length}
 
@@ -32,11 +32,11 @@ data Stands (κ : List ℕ) (a k : ℕ) : Type 0 where
   alone : 11 < a → k ≡ 0 → Stands κ a k
 
 module _ (κ : List ℕ) (K : Choice κ) where
-  of_kind : (k : ℕ) → k ≤ 4 → Stands κ (kind_term k) k
+  of_kind_law : (k : ℕ) → k ≤ 4 → Stands κ (kind_term k) k
   unfolding kind_term
-  of_kind zero h = alone (rw (choose_true {b = ltb 0 1} 12 (choose (ltb 4 0) 12 (0 + 7)) refl) (omega arith)) refl
-  of_kind (suc k) h =
-      let e : kind_term (suc k) ≡ suc k + 7 = kind_term (suc k) (omega arith) h in
+  of_kind_law zero h = alone (rw (choose_true {b = ltb 0 1} 12 (choose (ltb 4 0) 12 (0 + 7)) refl) (omega arith)) refl
+  of_kind_law (suc k) h =
+      let e : kind_term (suc k) ≡ suc k + 7 = kind_term_law (suc k) (omega arith) h in
       let d : suc k + 7 - 7 ≡ suc k = omega arith in
       for (rw e (omega arith)) (rw e (term_fixed κ (suc k + 7) (omega arith) ∙ d)) (omega arith) h
 
@@ -67,14 +67,14 @@ module _ (κ : List ℕ) (K : Choice κ) where
 
   fixed_kinds : {a k : ℕ} (j : ℕ) → 1 ≤ j → j ≤ 4 → Stands κ a k → Meets κ (same a (j + 7)) ↔ (k ≡ j)
   fixed_kinds j l h s =
-      let r : Stands κ (j + 7) j = rw (kind_term j l h) at (of_kind j h) in
+      let r : Stands κ (j + 7) j = rw (kind_term_law j l h) at (of_kind_law j h) in
       let q = same_kinds s r in
       (λ m. (q.0 m).1, λ e. q.1 (rw e l, e))
 
   module _ (cs : List Constant) (C : (c : ℕ) → kind_at cs c ≤ 4) where
     of_expr : (e : Expr) → Stands κ (term_of cs e) (kind_under cs κ e)
     unfolding term_of
-    of_expr (con c) = of_kind (kind_at cs c) (C c)
+    of_expr (con c) = of_kind_law (kind_at cs c) (C c)
     of_expr (var v) = of_var v
     of_expr today = for (omega arith) (term_fixed κ 10 (omega arith)) (omega arith) (omega arith)
 
@@ -139,7 +139,7 @@ module _ (κ : List ℕ) (K : Choice κ) where
 
     in_place_law : {a k : ℕ} (j : ℕ) → 1 ≤ j → j ≤ 4 → Stands κ a k → T (eqb k j) ↔ Meets κ (same a (kind_term j))
     in_place_law {k = k} j l h s =
-        let q = same_kinds s (of_kind j h) in
+        let q = same_kinds s (of_kind_law j h) in
         (λ t. let e = eqb→eq k j t in q.1 (rw e l, e), λ m. eqb_in (q.0 m).1)
 
     place_asks : (p : ℕ × Expr) → 1 ≤ p.0 → p.0 ≤ 4 → T (in_place cs κ p) ↔ Meets κ (ask_place cs p)
@@ -147,7 +147,7 @@ module _ (κ : List ℕ) (K : Choice κ) where
     place_asks p l h = go p.1
       where
         go : (e : Expr) → T (in_place cs κ (p.0, e)) ↔ Meets κ (ask_place cs (p.0, e))
-        go (con c) = in_place_law p.0 l h (of_kind (kind_at cs c) (C c))
+        go (con c) = in_place_law p.0 l h (of_kind_law (kind_at cs c) (C c))
         go (var v) = in_place_law p.0 l h (of_var v)
         go today = (λ t. absurd t, λ m. absurd (let w = m.0 in omega arith))
 
@@ -178,13 +178,13 @@ kind_of_law k m =
     let r = and_of (leb 1 k) (leb k 4) t in
     (leb→le 1 k r.0, leb→le k 4 r.1)
 
-kind_in : (k : ℕ) → 1 ≤ k → k ≤ 4 → Memᴰ k kinds
-kind_in zero l h = absurd (omega arith)
-kind_in (suc zero) l h = Memᴰ.head refl
-kind_in (suc (suc zero)) l h = Memᴰ.tail (Memᴰ.head refl)
-kind_in (suc (suc (suc zero))) l h = Memᴰ.tail (Memᴰ.tail (Memᴰ.head refl))
-kind_in (suc (suc (suc (suc zero)))) l h = Memᴰ.tail (Memᴰ.tail (Memᴰ.tail (Memᴰ.head refl)))
-kind_in (suc (suc (suc (suc (suc k))))) l h = absurd (omega arith)
+kind_in_law : (k : ℕ) → 1 ≤ k → k ≤ 4 → Memᴰ k kinds
+kind_in_law zero l h = absurd (omega arith)
+kind_in_law (suc zero) l h = Memᴰ.head refl
+kind_in_law (suc (suc zero)) l h = Memᴰ.tail (Memᴰ.head refl)
+kind_in_law (suc (suc (suc zero))) l h = Memᴰ.tail (Memᴰ.tail (Memᴰ.head refl))
+kind_in_law (suc (suc (suc (suc zero)))) l h = Memᴰ.tail (Memᴰ.tail (Memᴰ.tail (Memᴰ.head refl)))
+kind_in_law (suc (suc (suc (suc (suc k))))) l h = absurd (omega arith)
 
 same_test : (a b : Bool) → (a ≡ true → T b) → (T b → a ≡ true) → a ≡ b
 same_test true true f g = refl
@@ -237,7 +237,7 @@ module _ (cs : List Constant) (D : Demands) (R : Regular cs D) where
       (λ e.
       let r = (feed_law qs).0 e in
       let met = (meets_asks cs D R r.0 r.1).1 ((h r.0).0 r.2) in
-      (fitting↔ cs D).1 (r.0, r.1.0, λ v l. let k = r.1.1 v l in kind_in (get_or r.0 v 0) k.0 k.1, met))
+      (fitting↔ cs D).1 (r.0, r.1.0, λ v l. let k = r.1.1 v l in kind_in_law (get_or r.0 v 0) k.0 k.1, met))
       (λ t. let r = (fitting↔ cs D).0 t in
       let K : Choice r.0 = (r.1, λ v l. kind_of_law (get_or r.0 v 0) (r.2 v l)) in
       (feed_law qs).1 (r.0, K, (h r.0).1 ((meets_asks cs D R r.0 K).0 r.3)))
@@ -259,7 +259,7 @@ module _ (cs : List Constant) (D : Demands) (R : Regular cs D) where
     where
       one : (κ : List ℕ) → Choice κ → MeetsAll κ qs → get_or κ v 0 ≡ kind_of D.places v
       one κ K m =
-          one_kind cs κ D.places (and_of (all (in_place cs κ) D.places) (all (comparable cs κ) D.tests) ((meets_asks cs D R κ K).1 ((h κ).0 m))).0 v n
+          one_kind_law cs κ D.places (and_of (all (in_place cs κ) D.places) (all (comparable cs κ) D.tests) ((meets_asks cs D R κ K).1 ((h κ).0 m))).0 v n
 
       low : v < 8
       low = let r = (feed_law qs).0 e in below_length r.0 8 r.1.0 v (λ z. n (sym (one r.0 r.1 r.2) ∙ z))

@@ -147,8 +147,8 @@ module _ (s : List ℕ) (bytes : (i : ℕ) → byte_at s i < 256) where
 
 -- ---- as the code takes it: x is what the reader handed out
 
-front_of : {A : Type 0} (n : ℕ) (js : List (Item A)) → take (length js) (held n (offsets js)) ≡ offsets js
-front_of n js = ap (λ (k : ℕ). take k (held n (offsets js))) (sym (length-map js (λ i. i.at))) ∙ held_front n (offsets js)
+front_of_law : {A : Type 0} (n : ℕ) (js : List (Item A)) → take (length js) (held n (offsets js)) ≡ offsets js
+front_of_law n js = ap (λ (k : ℕ). take k (held n (offsets js))) (sym (length-map js (λ i. i.at))) ∙ held_front n (offsets js)
 
 -- the first numbers of a list that the reader handed out, and the model's offsets
 pub record Laid (ats : List ℕ) (count : ℕ) (model : List ℕ) : Type 0 where
@@ -167,7 +167,7 @@ module _ (s : List ℕ) (x : Index) (h : x ≡ handed_out (read_policy s)) where
   constants_front = go (read_policy s) h
     where
       go : (r : Reading Accepted) → x ≡ handed_out r → take x.constants x.constant_at ≡ constant_offsets r
-      go (got A e) i = subst (λ (y : Index). take y.constants y.constant_at ≡ offsets A.constants) (sym i) (front_of max_constants A.constants)
+      go (got A e) i = subst (λ (y : Index). take y.constants y.constant_at ≡ offsets A.constants) (sym i) (front_of_law max_constants A.constants)
       go (refused n p) i = subst (λ (y : Index). take y.constants y.constant_at ≡ []) (sym i) refl
 
   verbs_front : take x.verbs x.verb_at ≡ verb_offsets (read_policy s)
@@ -175,7 +175,7 @@ module _ (s : List ℕ) (x : Index) (h : x ≡ handed_out (read_policy s)) where
   verbs_front = go (read_policy s) h
     where
       go : (r : Reading Accepted) → x ≡ handed_out r → take x.verbs x.verb_at ≡ verb_offsets r
-      go (got A e) i = subst (λ (y : Index). take y.verbs y.verb_at ≡ offsets A.verbs) (sym i) (front_of max_verbs A.verbs)
+      go (got A e) i = subst (λ (y : Index). take y.verbs y.verb_at ≡ offsets A.verbs) (sym i) (front_of_law max_verbs A.verbs)
       go (refused n p) i = subst (λ (y : Index). take y.verbs y.verb_at ≡ []) (sym i) refl
 
   constants_count : x.constants ≡ length (constant_offsets (read_policy s))

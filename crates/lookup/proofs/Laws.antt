@@ -55,9 +55,9 @@ module _ (f : ℕ → Bool) (i n : ℕ) where
   unfolding first_of
   first_none e = rw e
 
-  pub first_here : (n ≡ 0 → ⊥) → f i ≡ true → i ≡ first_of f i n
+  pub first_here_law : (n ≡ 0 → ⊥) → f i ≡ true → i ≡ first_of f i n
   unfolding first_of
-  first_here h e = go n h
+  first_here_law h e = go n h
     where
       go : (n : ℕ) → (n ≡ 0 → ⊥) → i ≡ first_of f i n
       go zero h = absurd (h refl)

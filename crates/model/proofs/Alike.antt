@@ -29,7 +29,7 @@ use Rattle.model.proofs.ListFacts.{and_of, and_in}
 use Rattle.model.proofs.ReadFacts.{choose_yes, choose_no, and_then_got, list_each, headed_got, ended_got}
 use Rattle.model.proofs.ByteFacts.{part_is}
 use Rattle.model.proofs.PolicyReader.{policy_is}
-use Rattle.model.proofs.AlikeFacts.{lower_capital, lower_below, lower_above, lowered_once, alike_agree, agree_alike, alike_long, front_of, front_in}
+use Rattle.model.proofs.AlikeFacts.{lower_capital, lower_below, lower_above, lowered_once, alike_agree, agree_alike, alike_long, front_of_law, front_in_law}
 use Rattle.model.proofs.AlikeFacts.{mem_at, Apart, list_apart, apart_one}
 
 pub only_capitals : OnlyCapitals
@@ -48,7 +48,7 @@ alike_labels = record {
 
 pub beginning_labels : BeginningLabels
 beginning_labels = record {
-  goes_on = λ l r. (front_of (lowered r) (lowered l), λ h. subst (λ (m : List ℕ). front (lowered r) m ≡ true) (sym h.1) (front_in (lowered r) h.0));
+  goes_on = λ l r. (front_of_law (lowered r) (lowered l), λ h. subst (λ (m : List ℕ). front (lowered r) m ≡ true) (sym h.1) (front_in_law (lowered r) h.0));
   whichever = λ l l' r r' d e. ap₂ (λ (m k : List ℕ). front k m) (alike_agree l l' d) (alike_agree r r' e);
 }
 
@@ -144,14 +144,14 @@ pub one_label : OneLabel
 one_label policy P h i j m k named e same =
     let c = get_or P.constants i no_constant in
     let d = get_or P.constants j no_constant in
-    let has : has_label c.kind ≡ true = has_label c.kind named in
+    let has : has_label c.kind ≡ true = has_label_law c.kind named in
     let zero_c : c.number ≡ 0 = policy_zero policy P h c (mem_at no_constant P.constants i m) has in
     let zero_d : d.number ≡ 0 = policy_zero policy P h d (mem_at no_constant P.constants j k) (ap has_label (sym e) ∙ has) in
     one_constant policy P h i j m k e (ap₂ (λ (a b : Bool). a && b) same (eq-eqb _ _ (zero_c ∙ sym zero_d)))
   where
-    has_label : (k : ℕ) → (k ≡ principal) ⊎ (k ≡ thing) → has_label k ≡ true
-    has_label k (inl e) = ap has_label e
-    has_label k (inr e) = ap has_label e
+    has_label_law : (k : ℕ) → (k ≡ principal) ⊎ (k ≡ thing) → has_label k ≡ true
+    has_label_law k (inl e) = ap has_label e
+    has_label_law k (inr e) = ap has_label e
 
 pub one_verb : OneVerb
 one_verb policy P h i j m k v =
@@ -166,10 +166,10 @@ module _ (s : List ℕ) where
   no_part_law : Part []
   no_part_law = (0, 0, omega arith, refl)
 
-  label_part : (b : Bool) (at n : ℕ) → at + 1 + n ≤ length s → 2 ≤ n → Part (choose b (bytes_at (n - 1) s (at + 2)) [])
+  label_part_law : (b : Bool) (at n : ℕ) → at + 1 + n ≤ length s → 2 ≤ n → Part (choose b (bytes_at (n - 1) s (at + 2)) [])
   unfolding choose
-  label_part true at n fits long = let l : at + 2 + (n - 1) ≤ length s = omega arith in (at + 2, n - 1, l, sym (part_is (n - 1) s (at + 2) l))
-  label_part false at n fits long = no_part_law
+  label_part_law true at n fits long = let l : at + 2 + (n - 1) ≤ length s = omega arith in (at + 2, n - 1, l, sym (part_is (n - 1) s (at + 2) l))
+  label_part_law false at n fits long = no_part_law
 
   -- the label of a constant that is read is what stands behind its kind
   constant_part : (earlier : List Constant) (at : ℕ) (c : Constant) (e : ℕ) → constant_item s earlier at ≡ got c e → Part c.label
@@ -179,7 +179,7 @@ module _ (s : List ℕ) where
       let fits = leb-true _ _ (T_true _ (both_of (ltb at (length s)) _ there.0).1) in
       let long = leb-true _ _ (T_true _ (both_of (leb 2 (byte_at s at)) _ there.1).0) in
       subst (λ (d : Constant). Part d.label) (item_new _ _ (constant_read_at s at) c at _ e h).0
-      (label_part (has_label (byte_at s (at + 1))) at (byte_at s at) fits long)
+      (label_part_law (has_label (byte_at s (at + 1))) at (byte_at s at) fits long)
 
 pub own_bytes : OwnBytes
 unfolding label_of label_in

@@ -56,17 +56,17 @@ pub alike_long : (l r : List ℕ) → alike l r ≡ true → length l ≡ length
 alike_long l r e = sym (length-map l lower) ∙ ap length (alike_agree l r e) ∙ length-map r lower
 
 -- a front, and what comes after it
-pub front_of : (r l : List ℕ) → front r l ≡ true → (m : List ℕ) × (l ≡ r ++ m)
-front_of [] l e = (l, refl)
-front_of (x ∷ r) [] e = absurd (false≢true e)
-front_of (x ∷ r) (y ∷ l) e =
+pub front_of_law : (r l : List ℕ) → front r l ≡ true → (m : List ℕ) × (l ≡ r ++ m)
+front_of_law [] l e = (l, refl)
+front_of_law (x ∷ r) [] e = absurd (false≢true e)
+front_of_law (x ∷ r) (y ∷ l) e =
     let k = and_true (eqb x y) (front r l) e in
-    let m = front_of r l k.1 in
+    let m = front_of_law r l k.1 in
     (m.0, ap₂ (λ (z : ℕ) (t : List ℕ). z ∷ t) (sym (eqb-true x y k.0)) m.1)
 
-pub front_in : (r m : List ℕ) → front r (r ++ m) ≡ true
-front_in [] m = refl
-front_in (x ∷ r) m = ap₂ (λ (a b : Bool). a && b) (same x) (front_in r m)
+pub front_in_law : (r m : List ℕ) → front r (r ++ m) ≡ true
+front_in_law [] m = refl
+front_in_law (x ∷ r) m = ap₂ (λ (a b : Bool). a && b) (same x) (front_in_law r m)
   where
     same : (x : ℕ) → eqb x x ≡ true
     same x = (and_true (eqb x x) true (T_true _ (same_list_refl (x ∷ [])))).0

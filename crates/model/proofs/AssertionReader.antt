@@ -16,7 +16,7 @@ use Rattle.model.specs.Reader.{item, times, u16, u32, byte_in}
 use Rattle.model.specs.Layout.{expr, constraint, fact, assertion}
 use Rattle.model.proofs.ReaderLaws.{then_in, then_out, then_choose, then_then, choose_true, choose_false, u16_in, u16_out, u32_in, u32_out}
 use Rattle.model.proofs.ReaderLaws.{byte_in_is, byte_in_out, upto_then, upto_in, upto_out}
-use Rattle.model.proofs.FactReader.{as_reading, as_choose, as_choose2, as_skip, as_stop, expr_in, expr_out, fact_then, facts_then}
+use Rattle.model.proofs.FactReader.{as_reading, as_choose, as_choose2, as_skip, as_stop, expr_in_law, expr_out, fact_then, facts_then}
 
 pub both_and : (a b : Bool) → both a b ≡ (a && b)
 unfolding both choose
@@ -30,14 +30,14 @@ module _ (s : List ℕ) (at e : ℕ) where
   after p o q = and_then (expr s at e q) (λ l z. and_then (expr s at e z) (λ r w. got (record { op = o; left = l; right = r }) w))
 
   after_in : (o p : ℕ) → p + 5 ≤ e → after p o (p + 1) ≡ got (record { op = o; left = expr_at s (p + 1); right = expr_at s (p + 3) }) (p + 5)
-  after_in o p h = then_in _ (expr_in s at e (p + 1) (p + 3) (omega arith) (omega arith)) ∙ then_in _ (expr_in s at e (p + 3) (p + 5) (omega arith) h)
+  after_in o p h = then_in _ (expr_in_law s at e (p + 1) (p + 3) (omega arith) (omega arith)) ∙ then_in _ (expr_in_law s at e (p + 3) (p + 5) (omega arith) h)
 
   after_out : (o p : ℕ) → e < p + 5 → after p o (p + 1) ≡ refused 3 at
   after_out o p h = go (dec_lt e (p + 3))
     where
       go : Dec (e < p + 3) → after p o (p + 1) ≡ refused 3 at
       go (yes k) = then_out _ (expr_out s at e (p + 1) (omega arith))
-      go (no k) = then_in _ (expr_in s at e (p + 1) (p + 3) (omega arith) (omega arith)) ∙ then_out _ (expr_out s at e (p + 3) (omega arith))
+      go (no k) = then_in _ (expr_in_law s at e (p + 1) (p + 3) (omega arith) (omega arith)) ∙ then_out _ (expr_out s at e (p + 3) (omega arith))
 
   constraint_there : (p : ℕ) → p < e → constraint s at e p ≡ choose (operator_form s p) (after p (byte_at s p) (p + 1)) (refused 3 at)
   unfolding constraint operator_form and_then

@@ -9,9 +9,9 @@ use borrow.Author.Tests.{leb-true}
 use Rattle.model.specs.Syntax.{Constant, Verb, Node, Nodes, says, test, all_of, any_of, non, exists, end, more}
 use Rattle.model.specs.Kinds.{Demands, no_demands, joined, demands_in, demands_all, fitting}
 use Rattle.model.specs.Bytes.{byte_at, Reading, got}
-use Rattle.model.specs.Readings.{expr_at, fact_at, fact_end, constraint_at, Sort, saysSort, testSort, allSort, anySort, notSort, existsSort, noSort}
+use Rattle.model.specs.Readings.{expr_at, fact_at, fact_end, constraint_at, Sort, says_sort, test_sort, all_sort, any_sort, not_sort, exists_sort, no_sort}
 use Rattle.model.specs.Readings.{sort_of, ends_by, nodes_by, end_by, node_end, node_by, node_at}
-use Rattle.model.specs.Forms.{Form, ends, broken, noVerb, fact_form}
+use Rattle.model.specs.Forms.{Form, ends, broken, no_verb, fact_form}
 use Rattle.model.specs.Nodes.{parts_form, variable_form, check_parts, fitted, check_says, check_test, check_by, check_node}
 use Rattle.model.specs.Records.{Arity}
 use Rattle.model.proofs.ReadFacts.{never, choose_yes, choose_no, and_then_got, levels_arity}
@@ -96,7 +96,7 @@ module _ (vs : List Verb) where
         let w = fitted_got _ at x E e r in
         record { to = w.1 ∙ sym (form_ends vs s (length s) (at + 3) x q); asked = w.0; sound = fact_arity s (at + 3) }
     says_checked broken D at E e q r = absurd (never 3 at e E r)
-    says_checked noVerb D at E e q r = absurd (never 5 at e E r)
+    says_checked no_verb D at E e q r = absurd (never 5 at e E r)
 
     test_checked : (D : Demands) (at : ℕ) (E : Demands) (e : ℕ) → check_test cs vs s D at ≡ got E e → Checked D E e (test (constraint_at s (at + 1))) (at + 6)
     unfolding check_test
@@ -113,23 +113,23 @@ module _ (vs : List Verb) where
         → check_by cs vs s k h D at ≡ got E e
         → Checked D E e (node_by vs s k f g at) (end_by vs s k g at)
     unfolding check_by node_by end_by parts_form variable_form
-    by_checked saysSort h f g c D at E e r = says_checked (fact_form vs s (length s) (at + 3)) D at E e refl r
-    by_checked testSort h f g c D at E e r = test_checked D at E e r
-    by_checked allSort h f g c D at E e r =
+    by_checked says_sort h f g c D at E e r = says_checked (fact_form vs s (length s) (at + 3)) D at E e refl r
+    by_checked test_sort h f g c D at E e r = test_checked D at E e r
+    by_checked all_sort h f g c D at E e r =
         let w = parts_checked h f g c (byte_at s (at + 1)) D (at + 2) E e (choose_yes _ _ 3 at E e r).1 in
         record { to = w.to; asked = w.asked; sound = w.sound }
-    by_checked anySort h f g c D at E e r =
+    by_checked any_sort h f g c D at E e r =
         let y = choose_yes _ _ 3 at E e r in
         let w = parts_checked h f g c (byte_at s (at + 1)) D (at + 2) E e y.1 in
         let o = leb-true 1 (byte_at s (at + 1)) (both_first (leb 1 (byte_at s (at + 1))) (leb (byte_at s (at + 1)) 8) (T_true _ y.0)) in
         record { to = w.to; asked = w.asked; sound = (some_part f g (byte_at s (at + 1)) (at + 2) o, w.sound) }
-    by_checked notSort h f g c D at E e r = let w = c D (at + 1) E e r in record { to = w.to; asked = w.asked; sound = w.sound }
-    by_checked existsSort h f g c D at E e r =
+    by_checked not_sort h f g c D at E e r = let w = c D (at + 1) E e r in record { to = w.to; asked = w.asked; sound = w.sound }
+    by_checked exists_sort h f g c D at E e r =
         let y = choose_yes _ _ 3 at E e r in
         let w = c D (at + 2) E e y.1 in
         let o = leb-true (byte_at s (at + 1)) 7 (both_second (ltb (at + 1) (length s)) (leb (byte_at s (at + 1)) 7) (T_true _ y.0)) in
         record { to = w.to; asked = w.asked; sound = (omega arith, w.sound) }
-    by_checked noSort h f g c D at E e r = absurd (never 3 at e E r)
+    by_checked no_sort h f g c D at E e r = absurd (never 3 at e E r)
 
     pub node_checked : (d : ℕ) → Checks (check_node cs vs s d) (node_at vs s d) (node_end vs s d)
     unfolding check_node node_at node_end

@@ -97,8 +97,8 @@ leap_four y e = go _ (eqb (y % 4) 0) refl e
 pub not_both : (y : ℕ) → leap_year y ≡ true → leap_year (suc y) ≡ true → ⊥
 not_both y a b = let p = leap_four y a in let q = leap_four (suc y) b in omega (arith, p, q)
 
-pub year_days : (y : ℕ) → year_days y ≡ 365 + more (leap_year y)
-year_days y = either (λ (b : Bool). cond b 366 365) (λ (b : Bool). 365 + more b) refl refl (leap_year y)
+pub year_days_law : (y : ℕ) → year_days y ≡ 365 + more (leap_year y)
+year_days_law y = either (λ (b : Bool). cond b 366 365) (λ (b : Bool). 365 + more b) refl refl (leap_year y)
 
 -- where one year after a day of year y lies, when `over` days of the year are over: before 29 February, on it, after it
 abbrev pub After : ℕ → ℕ → ℕ → Type 0
@@ -143,7 +143,7 @@ module _ (n : ℕ) where
   on_day e q = q ∙ (
       let a : days_of_months (suc y) (d.month - 1) ≡ base d.month + late d.month (leap_year (suc y)) = before (suc y) d.month h.month h.months in
       let b : days_of_years (suc y - 2000) ≡ days_of_years (y - 2000) + year_days y = year_on y h.since in
-      let c : year_days y ≡ 365 + more (leap_year y) = year_days y in
+      let c : year_days y ≡ 365 + more (leap_year y) = year_days_law y in
       omega (arith, a, b, c))
 
   same_day : is_leap_day d ≡ false

@@ -54,18 +54,18 @@ pub on_policy : (s : Slices) (P : Policy) → ReadAs s.policy P → read_slices 
 unfolding read_slices sided
 on_policy s P h = ap (λ (r : Reading Accepted). sided 1 r (λ (A : Accepted). after_policy s (policy_of A))) h.2 ∙ ap (after_policy s) h.3
 
-pub on_request : (s : Slices) (P : Policy) (q : Request) → ReadAs s.policy P → AskedAs P s.request q → read_slices s ≡ after_request s P q
+pub on_request_law : (s : Slices) (P : Policy) (q : Request) → ReadAs s.policy P → AskedAs P s.request q → read_slices s ≡ after_request s P q
 unfolding sided
-on_request s P q h k = on_policy s P h ∙ ap (λ (r : Reading Request). sided 2 r (after_request s P)) k.1
+on_request_law s P q h k = on_policy s P h ∙ ap (λ (r : Reading Request). sided 2 r (after_request s P)) k.1
 
-pub on_withdrawals : (s : Slices) (P : Policy) (q : Request) (ws : List Withdrawal)
+pub on_withdrawals_law : (s : Slices) (P : Policy) (q : Request) (ws : List Withdrawal)
     → ReadAs s.policy P → AskedAs P s.request q → WithdrawnAs P s.withdrawals ws → read_slices s ≡ after_withdrawals s P q ws
 unfolding sided
-on_withdrawals s P q ws h k w = on_request s P q h k ∙ ap (λ (r : Reading (List Withdrawal)). sided 3 r (after_withdrawals s P q)) w.1
+on_withdrawals_law s P q ws h k w = on_request_law s P q h k ∙ ap (λ (r : Reading (List Withdrawal)). sided 3 r (after_withdrawals s P q)) w.1
 
-pub slice_by_slice : (s : Slices) (R : Read) → Inputs s R → InputsBySlice s R
+pub slice_by_slice_law : (s : Slices) (R : Read) → Inputs s R → InputsBySlice s R
 unfolding read_slices
-slice_by_slice s R h =
+slice_by_slice_law s R h =
     let k = sided_accepted 1 (read_policy s.policy) (λ (A : Accepted). after_policy s (policy_of A)) R h in
     let P = policy_of k.0 in
     let m = sided_accepted 2 (request_under P s) (after_request s P) R k.3 in
@@ -84,7 +84,7 @@ slice_by_slice s R h =
 pub of_slices : (s : Slices) (R : Read) → InputsBySlice s R → Inputs s R
 unfolding sided
 of_slices s R h =
-    on_withdrawals s R.policy R.request R.withdrawals h.read_as h.asked_as h.withdrawn_as
+    on_withdrawals_law s R.policy R.request R.withdrawals h.read_as h.asked_as h.withdrawn_as
     ∙ ap (λ (r : Reading (List Link)). sided 4 r (λ (H : List Link). accepted (read R.policy R.request R.withdrawals H))) h.ranked_as.1
 
 pub reports : (l : Lent) (R : Read) → Inputs l.slices R

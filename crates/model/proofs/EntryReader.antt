@@ -20,8 +20,8 @@ use Rattle.model.specs.Layout.{expr, constraint, withdrawal, withdrawal_item, li
 use Rattle.model.specs.Entries.{withdrawal_end, withdrawal_at, withdrawal_form, computed_withdrawals, read_withdrawals}
 use Rattle.model.specs.Entries.{link_at, link_judged, computed_hierarchy, read_hierarchy}
 use Rattle.model.specs.Entries as entries
-use Rattle.model.proofs.ReaderLaws.{then_in, then_out, choose_true, choose_false, byte_in, byte_out, u16_in, u16_out, u32_in, u32_out, upto_in, upto_out}
-use Rattle.model.proofs.FactReader.{expr_in, expr_out}
+use Rattle.model.proofs.ReaderLaws.{then_in, then_out, choose_true, choose_false, byte_in_law, byte_out, u16_in, u16_out, u32_in, u32_out, upto_in, upto_out}
+use Rattle.model.proofs.FactReader.{expr_in_law, expr_out}
 use Rattle.model.proofs.AssertionReader.{constraints_in, constraints_out}
 use Rattle.model.proofs.PolicyReader.{list_is, then_same, slice_is, ended_is}
 
@@ -65,7 +65,7 @@ module _ (s : List ℕ) (at : ℕ) where
       (from_tests (expr_at s at) (u32_at s (at + 2)) n (at + 7))
   unfolding withdrawal
   count_is h =
-      then_in _ (expr_in s at (length s) at (at + 2) refl (omega arith)) ∙ then_in _ (u32_in s at (length s) (at + 2) (at + 6) (omega arith) (omega arith))
+      then_in _ (expr_in_law s at (length s) at (at + 2) refl (omega arith)) ∙ then_in _ (u32_in s at (length s) (at + 2) (at + 6) (omega arith) (omega arith))
       ∙ upto_in s at (length s) (from_tests (expr_at s at) (u32_at s (at + 2))) max_constraints (at + 6) (at + 7) (omega arith) h
 
   short_is : length s < at + 7 → withdrawal s at (length s) at ≡ refused 3 at
@@ -74,9 +74,9 @@ module _ (s : List ℕ) (at : ℕ) where
     where
       go : Dec (length s < at + 2) → Dec (length s < at + 6) → withdrawal s at (length s) at ≡ refused 3 at
       go (yes k) d = then_out _ (expr_out s at (length s) at k)
-      go (no k) (yes l) = then_in _ (expr_in s at (length s) at (at + 2) refl (omega arith)) ∙ then_out _ (u32_out s at (length s) (at + 2) (omega arith))
+      go (no k) (yes l) = then_in _ (expr_in_law s at (length s) at (at + 2) refl (omega arith)) ∙ then_out _ (u32_out s at (length s) (at + 2) (omega arith))
       go (no k) (no l) =
-          then_in _ (expr_in s at (length s) at (at + 2) refl (omega arith)) ∙ then_in _ (u32_in s at (length s) (at + 2) (at + 6) (omega arith) (omega arith))
+          then_in _ (expr_in_law s at (length s) at (at + 2) refl (omega arith)) ∙ then_in _ (u32_in s at (length s) (at + 2) (at + 6) (omega arith) (omega arith))
           ∙ upto_out s at (length s) (from_tests (expr_at s at) (u32_at s (at + 2))) max_constraints (at + 6) (omega arith)
 
   -- an entry is read where its form is right
@@ -145,7 +145,7 @@ module _ (vs : List Verb) (s : List ℕ) (at : ℕ) where
   position_in : at + link_bytes ≤ length s → from_position (byte_at s at) (at + 1) ≡ got (link_at s at) (at + link_bytes)
   unfolding link_at
   position_in h =
-      then_in _ (byte_in s at (length s) (at + 1) (at + 2) (omega arith) (omega arith))
+      then_in _ (byte_in_law s at (length s) (at + 1) (at + 2) (omega arith) (omega arith))
       ∙ then_in _ (u16_in s at (length s) (at + 2) (at + 4) (omega arith) (omega arith))
       ∙ then_in _ (u16_in s at (length s) (at + 4) (at + 6) (omega arith) (omega arith))
 
@@ -155,9 +155,9 @@ module _ (vs : List Verb) (s : List ℕ) (at : ℕ) where
       go : Dec (length s < at + 2) → Dec (length s < at + 4) → from_position (byte_at s at) (at + 1) ≡ refused 3 at
       go (yes k) d = then_out _ (byte_out s at (length s) (at + 1) (omega arith))
       go (no k) (yes l) =
-          then_in _ (byte_in s at (length s) (at + 1) (at + 2) (omega arith) (omega arith)) ∙ then_out _ (u16_out s at (length s) (at + 2) (omega arith))
+          then_in _ (byte_in_law s at (length s) (at + 1) (at + 2) (omega arith) (omega arith)) ∙ then_out _ (u16_out s at (length s) (at + 2) (omega arith))
       go (no k) (no l) =
-          then_in _ (byte_in s at (length s) (at + 1) (at + 2) (omega arith) (omega arith))
+          then_in _ (byte_in_law s at (length s) (at + 1) (at + 2) (omega arith) (omega arith))
           ∙ then_in _ (u16_in s at (length s) (at + 2) (at + 4) (omega arith) (omega arith))
           ∙ then_out _ (u16_out s at (length s) (at + 4) (omega arith))
 
@@ -192,7 +192,7 @@ module _ (vs : List Verb) (s : List ℕ) (at : ℕ) where
           (choose (ltb (length s) (at + link_bytes)) (refused 3 at) (got (link_at s at) (at + link_bytes))))
       go (yes h) = then_out _ (byte_out s at (length s) at (omega arith)) ∙ sym (choose_true _ _ (lt-ltb (length s) (at + 1) h))
       go (no h) =
-          then_in _ (byte_in s at (length s) at (at + 1) refl (omega arith))
+          then_in _ (byte_in_law s at (length s) at (at + 1) refl (omega arith))
           ∙ verb_is
           ∙ ap (choose (ltb (length vs) (byte_at s at)) (refused 5 at)) position_is
           ∙ sym (choose_false _ _ (le-ltb (length s) (at + 1) (omega arith)))

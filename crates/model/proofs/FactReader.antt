@@ -12,10 +12,10 @@ use Rattle.model.specs.Limits.{unlimited, max_nest, first_variable, today_code}
 use Rattle.model.specs.Syntax.{Expr, Fact, flat, can_say, Verb, con, var, today}
 use Rattle.model.specs.Bytes.{byte_at, choose, Reading, got, refused, and_then}
 use Rattle.model.specs.Readings.{expr_of, expr_at, exprs_at, arity_of, levels_at, fact_at, fact_end, facts_at, facts_end}
-use Rattle.model.specs.Forms.{Form, ends, broken, noVerb, then_form, phrase_form, levels_form, fact_form, facts_form}
+use Rattle.model.specs.Forms.{Form, ends, broken, no_verb, then_form, phrase_form, levels_form, fact_form, facts_form}
 use Rattle.model.specs.Reader.{times}
 use Rattle.model.specs.Layout.{expr, levels, fact}
-use Rattle.model.proofs.ReaderLaws.{then_in, then_out, choose_true, choose_false, byte_in, byte_out, u16_in, u16_out, upto_then, upto_in}
+use Rattle.model.proofs.ReaderLaws.{then_in, then_out, choose_true, choose_false, byte_in_law, byte_out, u16_in, u16_out, upto_then, upto_in}
 use Rattle.model.proofs.ReaderLaws.{upto_out}
 use Rattle.model.proofs.ReaderEnds.{form_ends, forms_end}
 
@@ -25,7 +25,7 @@ module _ {A : Type 0} where
   abbrev pub as_reading : ℕ → Form → A → Reading A
   as_reading at (ends q) x = got x q
   as_reading at broken x = refused 3 at
-  as_reading at noVerb x = refused 5 at
+  as_reading at no_verb x = refused 5 at
 
   pub as_choose : (at : ℕ) (b : Bool) (φ ψ : Form) (x : A) → as_reading at (choose b φ ψ) x ≡ choose b (as_reading at φ x) (as_reading at ψ x)
   unfolding choose
@@ -52,7 +52,7 @@ module _ {A B : Type 0} where
   unfolding and_then
   as_map at (ends q) x g = refl
   as_map at broken x g = refl
-  as_map at noVerb x g = refl
+  as_map at no_verb x g = refl
 
   -- one part after another, where the first ends at z if it ends
   pub as_then : (at : ℕ) (φ : Form) (x : A) (z : ℕ) → ((q : ℕ) → φ ≡ ends q → z ≡ q) → (f : A → ℕ → Reading B) (g : ℕ → Form) (y : B)
@@ -60,7 +60,7 @@ module _ {A B : Type 0} where
   unfolding and_then then_form
   as_then at (ends q) x z h f g y k = subst (λ (w : ℕ). f x w ≡ as_reading at (g w) y) (h q refl) k
   as_then at broken x z h f g y k = refl
-  as_then at noVerb x z h f g y k = refl
+  as_then at no_verb x z h f g y k = refl
 
 -- ---- expressions
 
@@ -78,9 +78,9 @@ unfolding expr_of choose
 expr_var x l = rw (ne_eqb x today_code (λ e. omega arith), le-ltb x first_variable l)
 
 module _ (s : List ℕ) (at e : ℕ) where
-  pub expr_in : (p q : ℕ) → p + 2 ≡ q → q ≤ e → expr s at e p ≡ got (expr_at s p) q
+  pub expr_in_law : (p q : ℕ) → p + 2 ≡ q → q ≤ e → expr s at e p ≡ got (expr_at s p) q
   unfolding expr expr_of
-  expr_in p q i h = then_in _ (u16_in s at e p q i h)
+  expr_in_law p q i h = then_in _ (u16_in s at e p q i h)
 
   pub expr_out : (p : ℕ) → e < p + 2 → expr s at e p ≡ refused 3 at
   unfolding expr expr_of
@@ -89,7 +89,7 @@ module _ (s : List ℕ) (at e : ℕ) where
   pub exprs_in : (n p q : ℕ) → p + 2 * n ≡ q → q ≤ e → times n (expr s) at e p ≡ got (exprs_at n s p) q
   unfolding times exprs_at
   exprs_in zero p q i h = ap (got []) (let k : p ≡ q = omega arith in k)
-  exprs_in (suc n) p q i h = then_in _ (expr_in p (p + 2) refl (omega arith)) ∙ then_in _ (exprs_in n (p + 2) q (omega arith) h)
+  exprs_in (suc n) p q i h = then_in _ (expr_in_law p (p + 2) refl (omega arith)) ∙ then_in _ (exprs_in n (p + 2) q (omega arith) h)
 
   pub exprs_out : (n p : ℕ) → p ≤ e → e < p + 2 * n → times n (expr s) at e p ≡ refused 3 at
   unfolding times
@@ -98,7 +98,7 @@ module _ (s : List ℕ) (at e : ℕ) where
     where
       go : Dec (e < p + 2) → (p + 2 ≤ e → times n (expr s) at e (p + 2) ≡ refused 3 at) → times (suc n) (expr s) at e p ≡ refused 3 at
       go (yes k) r = then_out _ (expr_out p k)
-      go (no k) r = then_in _ (expr_in p (p + 2) refl (omega arith)) ∙ then_out _ (r (omega arith))
+      go (no k) r = then_in _ (expr_in_law p (p + 2) refl (omega arith)) ∙ then_out _ (r (omega arith))
 
 -- ---- facts
 
@@ -107,7 +107,7 @@ module _ (s : List ℕ) (vs : List Verb) (at e : ℕ) where
   params_is : (x : Expr) (p : ℕ) → p ≤ e → (v : ℕ)
       → and_then (choose (leb v (length vs)) (got tt p) (refused 5 at))
       (λ (y : Unit {0}) q. and_then (times (arity_of vs v) (expr s) at e q) (λ es z. got (flat x v es) z))
-      ≡ as_reading at (choose (ltb (length vs) v) noVerb (choose (ltb e (p + 2 * arity_of vs v)) broken (ends (p + 2 * arity_of vs v))))
+      ≡ as_reading at (choose (ltb (length vs) v) no_verb (choose (ltb e (p + 2 * arity_of vs v)) broken (ends (p + 2 * arity_of vs v))))
       (flat x v (exprs_at (arity_of vs v) s p))
   unfolding choose and_then
   params_is x p l v = go (dec_lt (length vs) v)
@@ -120,7 +120,7 @@ module _ (s : List ℕ) (vs : List Verb) (at e : ℕ) where
 
       go : Dec (length vs < v) → and_then (choose (leb v (length vs)) (got tt p) (refused 5 at))
           (λ (y : Unit {0}) q. and_then (times (arity_of vs v) (expr s) at e q) (λ es z. got (flat x v es) z))
-          ≡ as_reading at (choose (ltb (length vs) v) noVerb (choose (ltb e (p + 2 * arity_of vs v)) broken (ends (p + 2 * arity_of vs v))))
+          ≡ as_reading at (choose (ltb (length vs) v) no_verb (choose (ltb e (p + 2 * arity_of vs v)) broken (ends (p + 2 * arity_of vs v))))
           (flat x v (exprs_at (arity_of vs v) s p))
       go (yes k) = rw (lt-ltb (length vs) v k, lt-leb v (length vs) k)
       go (no k) = let h : v ≤ length vs = omega arith in rw (le-ltb (length vs) v h, le-leb v (length vs) h) (more (dec_lt e (p + 2 * arity_of vs v)))
@@ -131,25 +131,25 @@ module _ (s : List ℕ) (vs : List Verb) (at e : ℕ) where
     where
       short : Dec (e < p + 2) → e < p + 3 → levels s vs zero at e p ≡ refused 3 at
       short (yes k) h = then_out _ (expr_out s at e p k)
-      short (no k) h = then_in _ (expr_in s at e p (p + 2) refl (omega arith)) ∙ then_out _ (byte_out s at e (p + 2) (omega arith))
+      short (no k) h = then_in _ (expr_in_law s at e p (p + 2) refl (omega arith)) ∙ then_out _ (byte_out s at e (p + 2) (omega arith))
 
       go : Dec (e < p + 3) → levels s vs zero at e p ≡ as_reading at (levels_form vs s e zero p) (levels_at vs zero s p)
       go (yes k) = short (dec_lt e (p + 2)) k ∙ ap (λ (φ : Form). as_reading at φ (levels_at vs zero s p)) (sym (choose_true _ _ (lt-ltb e (p + 3) k)))
       go (no k) =
-          then_in _ (expr_in s at e p (p + 2) refl (omega arith)) ∙ then_in _ (byte_in s at e (p + 2) (p + 3) (omega arith) (omega arith))
+          then_in _ (expr_in_law s at e p (p + 2) refl (omega arith)) ∙ then_in _ (byte_in_law s at e (p + 2) (p + 3) (omega arith) (omega arith))
           ∙ params_is (expr_at s p) (p + 3) (omega arith) (byte_at s (p + 2))
           ∙ ap (λ (φ : Form). as_reading at φ (levels_at vs zero s p)) (sym (choose_false _ _ (le-ltb e (p + 3) (omega arith))))
   levels_is (suc m) p = go (dec_lt e (p + 3)) (levels_is m (p + 3))
     where
       short : Dec (e < p + 2) → e < p + 3 → levels s vs (suc m) at e p ≡ refused 3 at
       short (yes k) h = then_out _ (expr_out s at e p k)
-      short (no k) h = then_in _ (expr_in s at e p (p + 2) refl (omega arith)) ∙ upto_out s at e _ unlimited (p + 2) (omega arith)
+      short (no k) h = then_in _ (expr_in_law s at e p (p + 2) refl (omega arith)) ∙ upto_out s at e _ unlimited (p + 2) (omega arith)
 
       go : Dec (e < p + 3) → levels s vs m at e (p + 3) ≡ as_reading at (levels_form vs s e m (p + 3)) (levels_at vs m s (p + 3))
           → levels s vs (suc m) at e p ≡ as_reading at (levels_form vs s e (suc m) p) (levels_at vs (suc m) s p)
       go (yes k) r = short (dec_lt e (p + 2)) k ∙ sym (as_stop at broken _ (levels_at vs (suc m) s p) (lt-ltb e (p + 3) k))
       go (no k) r =
-          then_in _ (expr_in s at e p (p + 2) refl (omega arith)) ∙ upto_in s at e (λ d q. and_then (levels s vs m at e q)
+          then_in _ (expr_in_law s at e p (p + 2) refl (omega arith)) ∙ upto_in s at e (λ d q. and_then (levels s vs m at e q)
           (λ f z. got (can_say (expr_at s p) d f) z)) unlimited (p + 2) (p + 3) (omega arith) (omega arith)
           ∙ ap (λ (t : Reading (Fact Expr)). choose (ltb unlimited (byte_at s (p + 2))) (refused 3 at) t)
           (ap (λ (t : Reading (Fact Expr)). and_then t (λ f z. got (can_say (expr_at s p) (byte_at s (p + 2)) f) z)) r

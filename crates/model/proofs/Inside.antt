@@ -21,7 +21,7 @@ use Rattle.model.specs.Reached.{issued_in, reach, counting}
 use Rattle.model.specs.Inputs.{who}
 use Rattle.model.proofs.ListFacts.{if_in, member_in, keep_of, keep_in}
 use Rattle.model.proofs.ClosureFacts.{within_more}
-use Rattle.model.proofs.BindingFacts.{bindings_of, at_variable}
+use Rattle.model.proofs.BindingFacts.{bindings_of_law, at_variable}
 use Rattle.model.proofs.StepFacts.{subject_about, rule_mono}
 use Rattle.model.proofs.ReachFacts.{reach_in}
 use Rattle.model.proofs.Tests.{T_true}
@@ -32,10 +32,10 @@ use Rattle.model.proofs.Tests.{T_true}
 bound_kind : (W : World) (a : Assertion) (v : ℕ) (θ : List ℕ) → v < 8 → Memᴰ θ (bindings_of W a)
     → Memᴰ (get_or θ v unbound) (choices W.constants (kinds_of W a v))
 bound_kind W a v θ h m =
-    rw (at_variable (kinds_of W a) v h) at ((bindings_of W.constants (map (kinds_of W a) variables) θ m).1 v h)
+    rw (at_variable (kinds_of W a) v h) at ((bindings_of_law W.constants (map (kinds_of W a) variables) θ m).1 v h)
 
-kind_here : (ps : List (ℕ × Expr)) (k v : ℕ) → kind_of ((k, var v) ∷ ps) v ≡ k
-kind_here ps k v = rw (T_true (eqb v v) (eqb_refl v))
+kind_here_law : (ps : List (ℕ × Expr)) (k v : ℕ) → kind_of ((k, var v) ∷ ps) v ≡ k
+kind_here_law ps k v = rw (T_true (eqb v v) (eqb_refl v))
 
 -- ---- what is said within the reach stays within it
 
@@ -83,9 +83,9 @@ module _ (W : World) (asked : List ℕ) (𝒜 : List Assertion) (placed : (a : A
   kind_subject : (vs : List Verb) (f : Fact Expr) (r : List (ℕ × Expr)) (v : ℕ) → subject f ≡ var v → kind_of (places vs f ++ r) v ≡ principal
   kind_subject vs (flat s n ps) r v e =
       let rest = pair (param_kinds vs n) ps ++ r in
-      subst (λ (x : Expr). kind_of ((principal, x) ∷ rest) v ≡ principal) (sym e) (kind_here rest principal v)
+      subst (λ (x : Expr). kind_of ((principal, x) ∷ rest) v ≡ principal) (sym e) (kind_here_law rest principal v)
   kind_subject vs (can_say s d f) r v e =
-      subst (λ (x : Expr). kind_of ((principal, x) ∷ (places vs f ++ r)) v ≡ principal) (sym e) (kind_here (places vs f ++ r) principal v)
+      subst (λ (x : Expr). kind_of ((principal, x) ∷ (places vs f ++ r)) v ≡ principal) (sym e) (kind_here_law (places vs f ++ r) principal v)
 
   -- the head's ground subject, where it is one that joins, is among those that the assertion brings in
   head_brings : (a : Assertion) (θ : List ℕ) (f : Fact Expr) → Memᴰ (bound θ (subject f)) (joining W (subject f))

@@ -15,13 +15,13 @@ use Rattle.model.specs.Kinds.{fits_assertion}
 use Rattle.model.specs.Safety.{safe_assertion}
 use Rattle.model.specs.Bytes.{byte_at, u16_at, u32_at, bytes_at, choose, both, Reading, got, refused, and_then}
 use Rattle.model.specs.Readings.{item_end, has_label, constant_read_at, verb_at, body_at, tests_at, assertion_read_at, assertion_end}
-use Rattle.model.specs.Forms.{Form, ends, broken, noVerb, label_byte, label_form, item_there, number_form, value_form, constant_form, is_kind}
+use Rattle.model.specs.Forms.{Form, ends, broken, no_verb, label_byte, label_form, item_there, number_form, value_form, constant_form, is_kind}
 use Rattle.model.specs.Forms.{signature_form, verb_form, statement_form, assertion_form}
 use Rattle.model.specs.Policies.{alike_constants, alike_verbs, judged, assertion_by}
 use Rattle.model.specs.Policies as policies
 use Rattle.model.specs.Reader.{◌>>=◌, ◌>>◌, Reader, pure, item, require, sized, times, byte, u16, u32, byte_in, rest}
 use Rattle.model.specs.Layout.{label, constant, verb, assertion, constant_item, verb_item, assertion_item}
-use Rattle.model.proofs.ReaderLaws.{then_in, then_out, then_choose, then_then, choose_true, choose_false, byte_in, byte_out, u16_in, u16_out}
+use Rattle.model.proofs.ReaderLaws.{then_in, then_out, then_choose, then_then, choose_true, choose_false, byte_in_law, byte_out, u16_in, u16_out}
 use Rattle.model.proofs.ReaderLaws.{u32_in, u32_out, byte_in_is, byte_in_out, upto_in, upto_out}
 use Rattle.model.proofs.FactReader.{as_reading, as_skip, as_stop}
 use Rattle.model.proofs.AssertionReader.{closing, closing_yes, closing_no, statement_at, statement_is}
@@ -35,11 +35,11 @@ module _ {A : Type 0} (s : List ℕ) (r : Reader A) (at e : ℕ) where
 
   sized1_in : (p : ℕ) → p < e → p + 1 + byte_at s p ≤ e → sized (byte s) r at e p ≡ inside (p + 1 + byte_at s p) (p + 1)
   unfolding sized
-  sized1_in p h k = then_in _ (byte_in s at e p (p + 1) refl (omega arith)) ∙ choose_true _ _ (le-leb (p + 1 + byte_at s p) e k)
+  sized1_in p h k = then_in _ (byte_in_law s at e p (p + 1) refl (omega arith)) ∙ choose_true _ _ (le-leb (p + 1 + byte_at s p) e k)
 
   sized1_past : (p : ℕ) → p < e → e < p + 1 + byte_at s p → sized (byte s) r at e p ≡ refused 3 at
   unfolding sized
-  sized1_past p h k = then_in _ (byte_in s at e p (p + 1) refl (omega arith)) ∙ choose_false _ _ (lt-leb (p + 1 + byte_at s p) e k)
+  sized1_past p h k = then_in _ (byte_in_law s at e p (p + 1) refl (omega arith)) ∙ choose_false _ _ (lt-leb (p + 1 + byte_at s p) e k)
 
   sized1_out : (p : ℕ) → e ≤ p → sized (byte s) r at e p ≡ refused 3 at
   unfolding sized
@@ -81,7 +81,7 @@ module _ (s : List ℕ) (cs : List Constant) (vs : List Verb) (at : ℕ) where
       go true false = refl
       go false c = refl
   checks broken a = refl
-  checks noVerb a = refl
+  checks no_verb a = refl
 
   sized_assertion : sized (u16 s) (assertion s vs) at (length s) at ≡ as_reading at (assertion_form vs s at) (assertion_read_at vs s at)
   unfolding assertion_form assertion_end
@@ -117,7 +117,7 @@ module _ (s : List ℕ) (at e : ℕ) where
   bytes_in : (n p q : ℕ) → p + n ≡ q → q ≤ e → times n (byte s) at e p ≡ got (bytes_at n s p) q
   unfolding times bytes_at
   bytes_in zero p q i h = ap (got []) (let k : p ≡ q = omega arith in k)
-  bytes_in (suc n) p q i h = then_in _ (byte_in s at e p (p + 1) refl (omega arith)) ∙ then_in _ (bytes_in n (p + 1) q (omega arith) h)
+  bytes_in (suc n) p q i h = then_in _ (byte_in_law s at e p (p + 1) refl (omega arith)) ∙ then_in _ (bytes_in n (p + 1) q (omega arith) h)
 
   label_is : (n p : ℕ) → p + n ≡ e → label s at e p ≡ choose (label_form n s p) (got (bytes_at n s p) e) (refused 3 at)
   unfolding label label_form rest and_then
@@ -129,11 +129,11 @@ module _ (s : List ℕ) (at e : ℕ) where
       ∙ then_choose (leb 1 n && leb n max_label && all label_byte (bytes_at n s p)) (got tt e) (refused 3 at) (λ (x : Unit {0}) q. got (bytes_at n s p) q)
       ∙ ap (λ (b : Bool). choose b (got (bytes_at n s p) e) (refused 3 at)) (sym (and3 (leb 1 n) (leb n max_label) (all label_byte (bytes_at n s p))))
 
-  kinds_in : (n p q : ℕ) → p + n ≡ q → q ≤ e → times n (byte_in s 1 quantity) at e p ≡ choose (all is_kind (bytes_at n s p)) (got (bytes_at n s p) q) (refused 3 at)
+  kinds_in_law : (n p q : ℕ) → p + n ≡ q → q ≤ e → times n (byte_in s 1 quantity) at e p ≡ choose (all is_kind (bytes_at n s p)) (got (bytes_at n s p) q) (refused 3 at)
   unfolding times bytes_at choose
-  kinds_in zero p q i h = ap (got []) (let k : p ≡ q = omega arith in k)
-  kinds_in (suc n) p q i h = go (is_kind (byte_at s p)) (all is_kind (bytes_at n s (p + 1))) (byte_in_is s at e 1 quantity p (omega arith))
-      (kinds_in n (p + 1) q (omega arith) h)
+  kinds_in_law zero p q i h = ap (got []) (let k : p ≡ q = omega arith in k)
+  kinds_in_law (suc n) p q i h = go (is_kind (byte_at s p)) (all is_kind (bytes_at n s (p + 1))) (byte_in_is s at e 1 quantity p (omega arith))
+      (kinds_in_law n (p + 1) q (omega arith) h)
     where
       go : (b c : Bool) → byte_in s 1 quantity at e p ≡ choose b (got (byte_at s p) (p + 1)) (refused 3 at)
           → times n (byte_in s 1 quantity) at e (p + 1) ≡ choose c (got (bytes_at n s (p + 1)) q) (refused 3 at)
@@ -240,7 +240,7 @@ module _ (s : List ℕ) (at : ℕ) where
   unfolding constant value_form number_form constant_read_at and_then choose
   value_is h =
       ap (λ (t : Reading ℕ). and_then (and_then t (λ k q. choose (has_label k) (labelled k) (numbered k) at F q)) close)
-      (byte_in s at F (at + 1) (at + 2) (omega arith) (omega arith))
+      (byte_in_law s at F (at + 1) (at + 2) (omega arith) (omega arith))
       ∙ go (has_label (byte_at s (at + 1)))
     where
       k : ℕ
@@ -331,11 +331,11 @@ module _ (s : List ℕ) (at : ℕ) where
   abbrev verb_of : ℕ → Verb
   verb_of m = record { kinds = bytes_at m s (at + 2); label = bytes_at (byte_at s at - 1 - m) s (at + 2 + m) }
 
-  arity_is : (m : ℕ) → 1 ≤ byte_at s at → after_arity m (at + 2)
+  arity_is_law : (m : ℕ) → 1 ≤ byte_at s at → after_arity m (at + 2)
       ≡ choose (both (leb (1 + m) (byte_at s at)) (both (all is_kind (bytes_at m s (at + 2))) (label_form (byte_at s at - 1 - m) s (at + 2 + m))))
       (got (verb_of m) G) (refused 3 at)
   unfolding choose both
-  arity_is m h = go (dec_lt (byte_at s at) (1 + m))
+  arity_is_law m h = go (dec_lt (byte_at s at) (1 + m))
     where
       fits : 1 + m ≤ byte_at s at → (b : Bool) → times m (byte_in s 1 quantity) at G (at + 2) ≡ choose b (got (bytes_at m s (at + 2)) (at + 2 + m)) (refused 3 at)
           → after_arity m (at + 2) ≡ choose (choose b (label_form (byte_at s at - 1 - m) s (at + 2 + m)) false) (got (verb_of m) G) (refused 3 at)
@@ -347,7 +347,7 @@ module _ (s : List ℕ) (at : ℕ) where
           (got (verb_of m) G) (refused 3 at)
       go (yes k) = then_out _ (kinds_out s at G m (at + 2) (omega arith) (omega arith)) ∙ rw (lt-leb (1 + m) (byte_at s at) k)
       go (no k) = let l : 1 + m ≤ byte_at s at = omega arith in fits l (all is_kind (bytes_at m s (at + 2)))
-          (kinds_in s at G m (at + 2) (at + 2 + m) refl (omega arith)) ∙ rw (le-leb (1 + m) (byte_at s at) l)
+          (kinds_in_law s at G m (at + 2) (at + 2 + m) refl (omega arith)) ∙ rw (le-leb (1 + m) (byte_at s at) l)
 
   verb_inner : inside s (verb s) at (length s) G (at + 1) ≡ choose (both (leb 1 (byte_at s at)) (signature_form s at)) (got (verb_at s at) G) (refused 3 at)
   unfolding both choose signature_form verb_at
@@ -361,7 +361,7 @@ module _ (s : List ℕ) (at : ℕ) where
           ∙ rw (le-leb 1 (byte_at s at) l, lt-leb (byte_at s (at + 1)) 3 k)
       go (no h) (no k) = let l : 1 ≤ byte_at s at = omega arith in let m : byte_at s (at + 1) ≤ 3 = omega arith in
           upto_in s at G after_arity max_arity (at + 1) (at + 2) (omega arith) (omega arith) ∙ choose_false _ _ (le-ltb 3 (byte_at s (at + 1)) m)
-          ∙ arity_is (byte_at s (at + 1)) l ∙ rw (le-leb 1 (byte_at s at) l, le-leb (byte_at s (at + 1)) 3 m)
+          ∙ arity_is_law (byte_at s (at + 1)) l ∙ rw (le-leb 1 (byte_at s at) l, le-leb (byte_at s (at + 1)) 3 m)
 
   verb_is : sized (byte s) (verb s) at (length s) at ≡ choose (verb_form s at) (got (verb_at s at) (item_end s at)) (refused 3 at)
   unfolding verb_form

@@ -87,9 +87,9 @@ module _ (cs : List Constant) (D : Demands) where
   place_in κ h k (var v) o t = subst (λ (n : ℕ). T (eqb n k)) (sym (trimmed_at κ h v (o v (Memᴰ.head refl)))) t
   place_in κ h k today o t = t
 
-  test_in : (κ : List ℕ) → Choice κ → (c : Constraint) → ((v : ℕ) → Memᴰ v (vars_test c) → Memᴰ v (occurring D)) → T (comparable cs κ c)
+  test_in_law : (κ : List ℕ) → Choice κ → (c : Constraint) → ((v : ℕ) → Memᴰ v (vars_test c) → Memᴰ v (occurring D)) → T (comparable cs κ c)
       → T (comparable cs (trimmed κ) c)
-  test_in κ h c o t =
+  test_in_law κ h c o t =
       let l = under_same κ h c.left (λ v m. o v (Memᴰ.append_left _ m)) in
       let r = under_same κ h c.right (λ v m. o v (Memᴰ.append_right (vars_of c.left) m)) in
       rw (l, r) t
@@ -108,7 +108,7 @@ module _ (cs : List Constant) (D : Demands) where
 
       tested : T (all (comparable cs κ) D.tests) → T (all (comparable cs (trimmed κ)) D.tests)
       tested t = all_in (comparable cs (trimmed κ)) D.tests
-          (λ c k. test_in κ h c (λ v n. Memᴰ.append_right (each D.places vars_at) (each_in vars_test k n)) (all_of_law (comparable cs κ) t k))
+          (λ c k. test_in_law κ h c (λ v n. Memᴰ.append_right (each D.places vars_at) (each_in vars_test k n)) (all_of_law (comparable cs κ) t k))
 
   pub fitting↔ : T (fitting cs D)
       ↔ ((κ : List ℕ) × (length κ ≡ length variables) × ((v : ℕ) → v < length variables → Memᴰ (get_or κ v 0) kinds) × T (meets cs D κ))
@@ -124,9 +124,9 @@ is_var_of v (con c) t = absurd t
 is_var_of v (var w) t = ap var (sym (eqb→eq v w t))
 is_var_of v today t = absurd t
 
-pub one_kind : (cs : List Constant) (κ : List ℕ) (ps : List (ℕ × Expr)) → T (all (in_place cs κ) ps) → (v : ℕ) → (¬ (kind_of ps v ≡ 0)) → get_or κ v 0 ≡ kind_of ps v
-one_kind cs κ [] t v h = absurd (h refl)
-one_kind cs κ (p ∷ ps) t v h = go (is_var v p.1) refl (one_kind cs κ ps k.1 v) h
+pub one_kind_law : (cs : List Constant) (κ : List ℕ) (ps : List (ℕ × Expr)) → T (all (in_place cs κ) ps) → (v : ℕ) → (¬ (kind_of ps v ≡ 0)) → get_or κ v 0 ≡ kind_of ps v
+one_kind_law cs κ [] t v h = absurd (h refl)
+one_kind_law cs κ (p ∷ ps) t v h = go (is_var v p.1) refl (one_kind_law cs κ ps k.1 v) h
   where
     k : T (in_place cs κ p) × T (all (in_place cs κ) ps)
     k = and_of (in_place cs κ p) (all (in_place cs κ) ps) t

@@ -17,7 +17,7 @@ use Rattle.model.specs.Kinds.{variables}
 use Rattle.model.specs.Safety.{safe_assertion}
 use Rattle.model.specs.Bytes.{byte_at, u16_at, choose, Reading, got, refused, and_then}
 use Rattle.model.specs.Readings.{arity_of, exprs_at, levels_at, fact_at, assertion_read_at}
-use Rattle.model.specs.Forms.{Form, ends, broken, noVerb, assertion_form}
+use Rattle.model.specs.Forms.{Form, ends, broken, no_verb, assertion_form}
 use Rattle.model.specs.Policies.{Item, contents, headed, ended, items_from, list_at, constant_item, judged, assertion_by, assertion_item, Accepted}
 use Rattle.model.specs.Policies.{policy_of, assertions_from, verbs_from, constants_from, computed_policy, read_policy}
 use Rattle.model.proofs.PolicyReader.{policy_is}
@@ -136,7 +136,7 @@ item_fine cs vs s before at a e r = go (assertion_form vs s at) r
         let c = choose_yes _ _ 6 at a e b.1 in
         subst (Fine cs vs) (let k : assertion_read_at vs s at ≡ a = let w = c.1 in cc in k) (record { fit = b.0; safe = c.0; arity = head_arity vs s at })
     go broken h = absurd (never 3 at e a h)
-    go noVerb h = absurd (never 5 at e a h)
+    go no_verb h = absurd (never 5 at e a h)
 
 module _ {A : Type 0} where
   pub headed_got : (latest : ℕ) (s : List ℕ) (r : Reading A) (x : A) (e : ℕ) → headed latest s r ≡ got x e → r ≡ got x e

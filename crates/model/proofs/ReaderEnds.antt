@@ -11,7 +11,7 @@ use Rattle.model.specs.Syntax.{Verb}
 use Rattle.model.specs.Bytes.{byte_at, choose}
 use Rattle.model.specs.Readings.{arity_of, levels_end, fact_end, facts_end}
 use Rattle.model.specs.Forms as forms
-use Rattle.model.specs.Forms.{ends, broken, noVerb, then_form, phrase_form, levels_form, fact_form, facts_form}
+use Rattle.model.specs.Forms.{ends, broken, no_verb, then_form, phrase_form, levels_form, fact_form, facts_form}
 
 past : (b : Bool) (x y : forms.Form) (q : ℕ) → ((p : ℕ) → x ≡ ends p → ⊥) → choose b x y ≡ ends q → (b ≡ false) × (y ≡ ends q)
 unfolding choose
@@ -21,14 +21,14 @@ past false x y q n e = (refl, e)
 pub no_broken : (p : ℕ) → broken ≡ ends p → ⊥
 no_broken p e = let z : ◌≡◌ {A = ℕ} 0 1 = cc in omega arith
 
-pub no_no_verb : (p : ℕ) → noVerb ≡ ends p → ⊥
+pub no_no_verb : (p : ℕ) → no_verb ≡ ends p → ⊥
 no_no_verb p e = let z : ◌≡◌ {A = ℕ} 0 1 = cc in omega arith
 
 pub then_ends : (φ : forms.Form) (f : ℕ → forms.Form) (q : ℕ) → then_form φ f ≡ ends q → (p : ℕ) × (φ ≡ ends p) × (f p ≡ ends q)
 unfolding then_form
 then_ends (ends p) f q e = (p, refl, e)
 then_ends broken f q e = absurd (no_broken q e)
-then_ends noVerb f q e = absurd (no_no_verb q e)
+then_ends no_verb f q e = absurd (no_no_verb q e)
 
 module _ (vs : List Verb) (s : List ℕ) (e : ℕ) where
   -- ---- facts: where they end, and that it is past their start and not past the item's end
@@ -37,7 +37,7 @@ module _ (vs : List Verb) (s : List ℕ) (e : ℕ) where
   unfolding phrase_form
   phrase_ends p q h =
       let a = past (ltb e (p + 3)) broken _ q no_broken h in
-      let b = past (ltb (length vs) (byte_at s (p + 2))) noVerb _ q no_no_verb a.1 in
+      let b = past (ltb (length vs) (byte_at s (p + 2))) no_verb _ q no_no_verb a.1 in
       let c = past (ltb e (p + 3 + 2 * arity_of vs (byte_at s (p + 2)))) broken _ q no_broken b.1 in
       let d : p + 3 + 2 * arity_of vs (byte_at s (p + 2)) ≡ q = let w = c.1 in cc in
       let l = ltb-false e (p + 3 + 2 * arity_of vs (byte_at s (p + 2))) c.0 in

@@ -43,9 +43,9 @@ module _ {A : Type 0} where
 -- ---- bytes: each reader where its bytes are there, with the offset after them, and where they are not
 
 module _ (s : List ℕ) (at e : ℕ) where
-  pub byte_in : (p q : ℕ) → p + 1 ≡ q → q ≤ e → byte s at e p ≡ got (byte_at s p) q
+  pub byte_in_law : (p q : ℕ) → p + 1 ≡ q → q ≤ e → byte s at e p ≡ got (byte_at s p) q
   unfolding byte
-  byte_in p q i h = choose_true _ _ (lt-ltb p e (omega arith)) ∙ ap (got (byte_at s p)) i
+  byte_in_law p q i h = choose_true _ _ (lt-ltb p e (omega arith)) ∙ ap (got (byte_at s p)) i
 
   pub byte_out : (p : ℕ) → e ≤ p → byte s at e p ≡ refused 3 at
   unfolding byte
@@ -53,14 +53,14 @@ module _ (s : List ℕ) (at e : ℕ) where
 
   pub u16_in : (p q : ℕ) → p + 2 ≡ q → q ≤ e → u16 s at e p ≡ got (u16_at s p) q
   unfolding u16 u16_at
-  u16_in p q i h = then_in _ (byte_in p (p + 1) refl (omega arith)) ∙ then_in _ (byte_in (p + 1) q (omega arith) (omega arith))
+  u16_in p q i h = then_in _ (byte_in_law p (p + 1) refl (omega arith)) ∙ then_in _ (byte_in_law (p + 1) q (omega arith) (omega arith))
 
   pub u16_out : (p : ℕ) → e < p + 2 → u16 s at e p ≡ refused 3 at
   unfolding u16
   u16_out p h = go (dec_lt p e)
     where
       go : Dec (p < e) → u16 s at e p ≡ refused 3 at
-      go (yes k) = then_in _ (byte_in p (p + 1) refl (omega arith)) ∙ then_out _ (byte_out (p + 1) (omega arith))
+      go (yes k) = then_in _ (byte_in_law p (p + 1) refl (omega arith)) ∙ then_out _ (byte_out (p + 1) (omega arith))
       go (no k) = then_out _ (byte_out p (omega arith))
 
   pub u32_in : (p q : ℕ) → p + 4 ≡ q → q ≤ e → u32 s at e p ≡ got (u32_at s p) q
@@ -79,7 +79,7 @@ module _ (s : List ℕ) (at e : ℕ) where
   pub byte_in_is : (low high p : ℕ) → p < e
       → byte_in s low high at e p ≡ choose (leb low (byte_at s p) && leb (byte_at s p) high) (got (byte_at s p) (p + 1)) (refused 3 at)
   unfolding byte_in and_then
-  byte_in_is low high p h = then_in _ (byte_in p (p + 1) refl (omega arith))
+  byte_in_is low high p h = then_in _ (byte_in_law p (p + 1) refl (omega arith))
       ∙ then_choose (leb low (byte_at s p) && leb (byte_at s p) high) (got tt (p + 1)) (refused 3 at) (λ x q. got (byte_at s p) q)
 
   pub byte_in_out : (low high p : ℕ) → e ≤ p → byte_in s low high at e p ≡ refused 3 at

@@ -13,16 +13,16 @@ use Rattle.model.specs.Syntax.{Expr, Fact, Constraint, Constant, Verb, Node, Nod
 use Rattle.model.specs.Kinds.{Demands, no_demands, joined, test_demands, demands_in, fitting}
 use Rattle.model.specs.Safety.{safe_request}
 use Rattle.model.specs.Bytes.{byte_at, u32_at, choose, both, Reading, got, refused, and_then}
-use Rattle.model.specs.Readings.{expr_at, fact_at, constraint_at, Sort, saysSort, testSort, allSort, anySort, notSort, existsSort, noSort, sort_of}
+use Rattle.model.specs.Readings.{expr_at, fact_at, constraint_at, Sort, says_sort, test_sort, all_sort, any_sort, not_sort, exists_sort, no_sort, sort_of}
 use Rattle.model.specs.Readings.{nodes_by, node_end, node_by, node_at}
-use Rattle.model.specs.Forms.{Form, ends, broken, noVerb, fact_form, operator_form}
+use Rattle.model.specs.Forms.{Form, ends, broken, no_verb, fact_form, operator_form}
 use Rattle.model.specs.Policies.{ended}
 use Rattle.model.specs.Nodes.{parts_form, variable_form, check_parts, fitted, check_says, check_test, check_by, check_node, request_of, safely}
 use Rattle.model.specs.Nodes.{request_from, computed_request, read_request}
 use Rattle.model.specs.Reader.{◌>>=◌, ◌>>◌, Reader, pure, refuse, byte, u32, byte_in, list}
 use Rattle.model.specs.Layout.{expr, fact, constraint, asking, parts, node}
-use Rattle.model.proofs.ReaderLaws.{then_in, then_out, then_choose, choose_true, byte_in, byte_out, u32_in, u32_out, byte_in_is, byte_in_out}
-use Rattle.model.proofs.FactReader.{as_reading, expr_in, expr_out, fact_is}
+use Rattle.model.proofs.ReaderLaws.{then_in, then_out, then_choose, choose_true, byte_in_law, byte_out, u32_in, u32_out, byte_in_is, byte_in_out}
+use Rattle.model.proofs.FactReader.{as_reading, expr_in_law, expr_out, fact_is}
 use Rattle.model.proofs.AssertionReader.{both_and, constraint_in, constraint_out}
 use Rattle.model.proofs.PolicyReader.{slice_is}
 use Rattle.model.proofs.CheckedNodes.{node_checked}
@@ -30,13 +30,13 @@ use Rattle.model.proofs.CheckedNodes.{node_checked}
 -- a node's own byte picks its sort
 module _ {X : Type 0} where
   abbrev pick : Sort → X → X → X → X → X → X → X → X
-  pick saysSort a b c d e f g = a
-  pick testSort a b c d e f g = b
-  pick allSort a b c d e f g = c
-  pick anySort a b c d e f g = d
-  pick notSort a b c d e f g = e
-  pick existsSort a b c d e f g = f
-  pick noSort a b c d e f g = g
+  pick says_sort a b c d e f g = a
+  pick test_sort a b c d e f g = b
+  pick all_sort a b c d e f g = c
+  pick any_sort a b c d e f g = d
+  pick not_sort a b c d e f g = e
+  pick exists_sort a b c d e f g = f
+  pick no_sort a b c d e f g = g
 
   pick_is : (n : ℕ) (a b c d e f g : X)
       → choose (eqb n 1) a (choose (eqb n 2) b (choose (eqb n 3) c (choose (eqb n 4) d (choose (eqb n 5) e (choose (eqb n 6) f g)))))
@@ -45,7 +45,7 @@ module _ {X : Type 0} where
   pick_is n a b c d e f g = go (eqb n 1) (eqb n 2) (eqb n 3) (eqb n 4) (eqb n 5) (eqb n 6)
     where
       go : (i j k l m o : Bool) → choose i a (choose j b (choose k c (choose l d (choose m e (choose o f g)))))
-          ≡ pick (choose i saysSort (choose j testSort (choose k allSort (choose l anySort (choose m notSort (choose o existsSort noSort)))))) a b c d e f g
+          ≡ pick (choose i says_sort (choose j test_sort (choose k all_sort (choose l any_sort (choose m not_sort (choose o exists_sort no_sort)))))) a b c d e f g
       go true j k l m o = refl
       go false true k l m o = refl
       go false false true l m o = refl
@@ -87,14 +87,14 @@ module _ (cs : List Constant) (vs : List Verb) (s : List ℕ) where
       by : (φ : Form) → and_then (as_reading p φ f) (λ f z. asking s cs vs D (says i f) p (length s) z) ≡ with (check_says cs vs s φ D p) (says i f)
       by (ends q) = asking_is D (says i f) p (length s) q
       by broken = refl
-      by noVerb = refl
+      by no_verb = refl
 
       go : Dec (length s < p + 3) → and_then (expr s p (length s) (p + 1))
           (λ i q. and_then (fact s vs p (length s) q) (λ f z. asking s cs vs D (says i f) p (length s) z))
           ≡ with (check_says cs vs s (fact_form vs s (length s) (p + 3)) D p) (says i f)
       go (yes h) = let l : length s ≤ p + 3 = omega arith in then_out _ (expr_out s p (length s) (p + 1) (omega arith)) ∙ rw (le-leb (length s) (p + 3) l)
       go (no h) =
-          then_in _ (expr_in s p (length s) (p + 1) (p + 3) (omega arith) (omega arith))
+          then_in _ (expr_in_law s p (length s) (p + 1) (p + 3) (omega arith) (omega arith))
           ∙ ap (λ (t : Reading (Fact Expr)). and_then t (λ f z. asking s cs vs D (says i f) p (length s) z)) (fact_is s vs p (length s) (p + 3))
           ∙ by (fact_form vs s (length s) (p + 3))
 
@@ -227,16 +227,16 @@ module _ (cs : List Constant) (vs : List Verb) (s : List ℕ) where
     sort_is : (k : Sort) → pick k r1 r2 r3 r4 r5 r6 (refuse 3) p (length s) (p + 1)
         ≡ with (check_by cs vs s k (check_node cs vs s d) D p) (node_by vs s k (node_at vs s d) (node_end vs s d) p)
     unfolding check_by node_by and_then
-    sort_is saysSort = says_is D p
-    sort_is testSort = test_is D p
-    sort_is allSort = many_is all_of
-    sort_is anySort = many_is any_of
-    sort_is notSort = inner_is non (p + 1)
-    sort_is existsSort =
+    sort_is says_sort = says_is D p
+    sort_is test_sort = test_is D p
+    sort_is all_sort = many_is all_of
+    sort_is any_sort = many_is any_of
+    sort_is not_sort = inner_is non (p + 1)
+    sort_is exists_sort =
         variable_is (λ v q. and_then (node s cs vs d D p (length s) q) (λ n z. got (exists v n) z)) p
         ∙ ap (λ (t : Reading Node). choose (variable_form s (p + 1)) t (refused 3 p)) (inner_is (exists (byte_at s (p + 1))) (p + 2))
         ∙ sym (with_choose (variable_form s (p + 1)) (check_node cs vs s d D (p + 2)) (refused 3 p) (exists (byte_at s (p + 1)) (node_at vs s d (p + 2))))
-    sort_is noSort = refl
+    sort_is no_sort = refl
 
   pub node_is : (d : ℕ) → NodeIs d
   unfolding node check_node node_at and_then choose
@@ -245,7 +245,7 @@ module _ (cs : List Constant) (vs : List Verb) (s : List ℕ) where
     where
       go : Dec (p < length s) → NodeIs d → node s cs vs (suc d) D at (length s) p ≡ with (check_node cs vs s (suc d) D p) (node_at vs s (suc d) p)
       go (yes h) one =
-          then_in _ (byte_in s p (length s) p (p + 1) refl (omega arith))
+          then_in _ (byte_in_law s p (length s) p (p + 1) refl (omega arith))
           ∙ ap (λ (r : Reader Node). r p (length s) (p + 1)) (pick_is (byte_at s p) (r1 d one D p) (r2 d one D p) (r3 d one D p) (r4 d one D p) (r5 d one D p)
           (r6 d one D p) (refuse 3))
           ∙ sort_is d one D p (sort_of (byte_at s p))

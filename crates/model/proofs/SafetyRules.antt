@@ -200,8 +200,8 @@ mutual
   known_of (says e (flat s v ps)) I O p l h = ap some (turn h)
   known_of (says e (can_say s d f)) I O p l h = let a = turn h in provided_in (among (vars_in (can_say s d f)) I) (some (vars_of e ++ I)) a.0 ∙ ap some a.1
   known_of (test c) I O p l h = let a = turn h in provided_in (among (vars_test c) I) (some I) a.0 ∙ ap some a.1
-  known_of (all_of ns) I O p l h = known_all ns I O p l (turn h)
-  known_of (any_of ns) I O p l h = known_any ns I O (all_proper ns p) l (turn h)
+  known_of (all_of ns) I O p l h = known_all_law ns I O p l (turn h)
+  known_of (any_of ns) I O p l h = known_any_law ns I O (all_proper ns p) l (turn h)
   known_of (non n) I O p l h = let a = turn h in provided_in (among (free n) I) (onward (known n I) (λ ws. some I)) a.1
       ∙ onward_in (known n I) (λ ws. some I) a.0 (known_of n I a.0 p l a.2) ∙ ap some a.3
   known_of (exists v n) I O p l h =
@@ -210,23 +210,23 @@ mutual
       ∙ onward_in (known n I) (λ ws. provided (member v ws) (some (without v ws))) a.0 (known_of n I a.0 p l a.2)
       ∙ provided_in (member v a.0) (some (without v a.0)) a.3 ∙ ap some a.4
 
-  known_all : (ns : Nodes) (I O : List ℕ) → ProperAll ns → Low I → SafeAll I ns O → known_all ns I ≡ some O
-  known_all end I O p l h = ap some (turn_all h)
-  known_all (more n ns) I O p l h =
+  known_all_law : (ns : Nodes) (I O : List ℕ) → ProperAll ns → Low I → SafeAll I ns O → known_all ns I ≡ some O
+  known_all_law end I O p l h = ap some (turn_all h)
+  known_all_law (more n ns) I O p l h =
       let a = turn_all h in
       let k = known_of n I a.0 p.0 l a.1 in
-      onward_in (known n I) (λ ws. known_all ns ws) a.0 k ∙ known_all ns a.0 O p.1 (safe_of n I a.0 p.0 l k).1 a.2
+      onward_in (known n I) (λ ws. known_all ns ws) a.0 k ∙ known_all_law ns a.0 O p.1 (safe_of n I a.0 p.0 l k).1 a.2
 
-  known_any : (ns : Nodes) (I O : List ℕ) → ProperAll ns → Low I → SafeAny I ns O → known_any ns I ≡ some O
-  known_any end I O p l h = absurd (turn_any h)
-  known_any (more n ns) I O p l h =
+  known_any_law : (ns : Nodes) (I O : List ℕ) → ProperAll ns → Low I → SafeAny I ns O → known_any ns I ≡ some O
+  known_any_law end I O p l h = absurd (turn_any h)
+  known_any_law (more n ns) I O p l h =
       let a = turn_any h in
       let k = known_of n I a.0 p.0 l a.1 in
       onward_in (known n I) (λ ws. onward (known_any ns I) (λ us. some (keep (λ w. member w us) ws))) a.0 k
       ∙ ⊎_elim
       (λ e. subst (λ (ms : Nodes). onward (known_any ms I) (λ us. some (keep (λ w. member w us) a.0)) ≡ some O) (sym e.0)
       (ap some (keep_all a.0 (safe_of n I a.0 p.0 l k).1 ∙ e.1)))
-      (λ r. onward_in (known_any ns I) (λ us. some (keep (λ w. member w us) a.0)) r.0 (known_any ns I r.0 p.1 l r.1) ∙ ap some r.2)
+      (λ r. onward_in (known_any ns I) (λ us. some (keep (λ w. member w us) a.0)) r.0 (known_any_law ns I r.0 p.1 l r.1) ∙ ap some r.2)
       a.2
 
 -- ---- requests
@@ -236,8 +236,8 @@ is_safe_of none vs t = absurd t
 is_safe_of (some O) vs t = (O, refl, t)
 
 -- "7 unsafe request", of a node that a request can be read as
-pub safe_request : (n : Node) → Proper n → T (safe_request n) ↔ SafeRequest n
-safe_request n p = (to, from)
+pub safe_request_law : (n : Node) → Proper n → T (safe_request n) ↔ SafeRequest n
+safe_request_law n p = (to, from)
   where
     to : T (safe_request n) → SafeRequest n
     to t =

@@ -81,8 +81,8 @@ module _ (W : World) (a : Assertion) where
 pub counted_left : (R : Read) (a : Assertion) → Memᴰ a (counted_in R) → Memᴰ a (left_in R)
 counted_left R a m = (keep_of (issued_in (reach (world_in R) (left_in R) (issuers R.request.node (world_in R)))) (left_in R) m).0
 
-pub counted_in : (R : Read) (a : Assertion) → Memᴰ a (counted_in R) → Memᴰ a R.policy.assertions
-counted_in R a m = left_in_law R a (counted_left R a m)
+pub counted_in_law : (R : Read) (a : Assertion) → Memᴰ a (counted_in R) → Memᴰ a R.policy.assertions
+counted_in_law R a m = left_in_law R a (counted_left R a m)
 
 -- without entries all are left
 pub left_all : (W : World) (𝒜 : List Assertion) → left W [] 𝒜 ≡ 𝒜
@@ -152,9 +152,9 @@ module _ (W : World) where
       of n c r F = let answers = answers_of W n (listed F) in chosen (ltb c (length F)) (ltb r (length answers)) (sorted key_of F) answers
 
   -- lists that are alike but for serials
-  pub serials_aside : (𝒜 ℬ : List Assertion) (asked : List ℕ) (n : Node) (c r : ℕ) → bare 𝒜 ≡ bare ℬ
+  pub serials_aside_law : (𝒜 ℬ : List Assertion) (asked : List ℕ) (n : Node) (c r : ℕ) → bare 𝒜 ≡ bare ℬ
       → outcome W (counting W 𝒜 asked) n c r ≡ outcome W (counting W ℬ asked) n c r
-  serials_aside 𝒜 ℬ asked n c r e =
+  serials_aside_law 𝒜 ℬ asked n c r e =
       sym (outcome_bare (counting W 𝒜 asked) n c r)
       ∙ (ap (λ (l : List Assertion). outcome W l n c r) (sym (counting_bare 𝒜 asked) ∙ (ap (λ (l : List Assertion). counting W l asked) e
       ∙ counting_bare ℬ asked))

@@ -13,7 +13,7 @@ use Rattle.model.specs.Limits.{max_day}
 use Rattle.model.specs.Calendar.{leap_year, year_days, month_days, Date, date, date_of, days_of_years, days_of_months, day_of, is_leap_day, one_year_after, year_after}
 use Rattle.model.specs.Years.{IsDate, DatesAreDays, SameDate, LeapBetween, YearLength, PermitYear}
 use Rattle.model.proofs.CalendarFacts.{months, forth, dated, year_on}
-use Rattle.model.proofs.DaysOfYear.{more, both, year_days, not_both, After, Placed, sort, on_leap_day, there, placed}
+use Rattle.model.proofs.DaysOfYear.{more, both, year_days_law, not_both, After, Placed, sort, on_leap_day, there, placed}
 
 -- ---- years in their order
 
@@ -95,7 +95,7 @@ dates_are_days = record { dated = λ n. (dated n).0; back = λ n. (dated n).1; f
             let next : days_of_years (suc d.year - 2000) ≡ days_of_years (d.year - 2000) + year_days d.year = year_on d.year since in
             let most : days_of_years (suc d.year - 2000) ≤ days_of_years 100 = ascend (suc d.year - 2000) 100 (omega arith) in
             let c = century in
-            let e = year_days d.year in
+            let e = year_days_law d.year in
             let i : day_of d ≡ p.start + p.over = p.is in
             let o : p.over < 365 + more (leap_year d.year) = subst (λ (y : ℕ). p.over < 365 + more (leap_year y)) year p.short in
             omega (arith, next, most, c, e, i, o, first)
@@ -188,7 +188,7 @@ module _ (n : ℕ) (p : Placed n) where
   short = p.short
 
   next : days_of_years (suc p.y - 2000) ≡ p.start + (365 + more (leap_year p.y))
-  next = year_on p.y since ∙ (let e = year_days p.y in omega (arith, e, first))
+  next = year_on p.y since ∙ (let e = year_days_law p.y in omega (arith, e, first))
 
   -- the 29 February of that year or of the next
   to : After n p.y p.over → year_after n ≡ n + 366 → LeapBetween n (year_after n)
@@ -221,7 +221,7 @@ module _ (n : ℕ) (p : Placed n) where
           which (yes b) c d =
               let before : days_of_years (suc w.y - 2000) ≤ days_of_years (p.y - 2000) = ascend (suc w.y - 2000) (p.y - 2000) (omega (arith, since')) in
               let year : days_of_years (suc w.y - 2000) ≡ days_of_years (w.y - 2000) + year_days w.y = year_on w.y since' in
-              let days = year_days w.y in
+              let days = year_days_law w.y in
               absurd (omega (arith, l, is, first, number, before, year, days))
           which (no b) (yes c) d =
               let leap : leap_year p.y ≡ true = subst (λ (y : ℕ). leap_year y ≡ true) c w.leap in
@@ -246,7 +246,7 @@ module _ (n : ℕ) (p : Placed n) where
               ascend (suc (suc p.y) - 2000) (w.y - 2000) (omega (arith, since, since', b, c, d)) in
               let year : days_of_years (suc (suc p.y) - 2000) ≡ days_of_years (suc p.y - 2000) + year_days (suc p.y) =
               year_on (suc p.y) (omega (arith, since)) in
-              let days = year_days (suc p.y) in
+              let days = year_days_law (suc p.y) in
               let most : year_after n ≤ n + 366 = ⊎_elim (λ (e : year_after n ≡ n + 365). omega (arith, e)) (λ e. omega (arith, e)) (lengths a) in
               absurd (omega (arith, h, number, later, year, days, next, is, short, most))
 

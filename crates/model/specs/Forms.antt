@@ -47,12 +47,12 @@ verb_form s at = both (item_there s at) (both (leb 1 (byte_at s at)) (signature_
 
 pub data Form : Type 0 where
   ends : ℕ → Form
-  broken noVerb : Form
+  broken no_verb : Form
 
 unfoldable pub then_form : Form → (ℕ → Form) → Form
 then_form (ends p) f = f p
 then_form broken f = broken
-then_form noVerb f = noVerb
+then_form no_verb f = no_verb
 
 -- "operator .. with no meaning"
 unfoldable pub operator_form : List ℕ → ℕ → Bool
@@ -69,7 +69,7 @@ module _ (vs : List Verb) (s : List ℕ) (e : ℕ) where
   unfoldable pub phrase_form : ℕ → Form
   phrase_form p =
       choose (ltb e (p + 3)) broken
-      (choose (ltb (length vs) (byte_at s (p + 2))) noVerb
+      (choose (ltb (length vs) (byte_at s (p + 2))) no_verb
       (choose (ltb e (p + 3 + 2 * arity_of vs (byte_at s (p + 2)))) broken
       (ends (p + 3 + 2 * arity_of vs (byte_at s (p + 2))))))
 

@@ -5,8 +5,8 @@ use Rattle.model.specs.Syntax.{Constant, Verb, Node, Request}
 use Rattle.model.specs.Kinds.{Demands, no_demands, joined, says_demands, test_demands, fitting}
 use Rattle.model.specs.Safety.{safe_request}
 use Rattle.model.specs.Bytes.{byte_at, u32_at, choose, both, Reading, got, refused, and_then}
-use Rattle.model.specs.Readings.{expr_at, fact_at, constraint_at, Sort, saysSort, testSort, allSort, anySort, notSort, existsSort, noSort, sort_of, node_at}
-use Rattle.model.specs.Forms.{Form, ends, broken, noVerb, fact_form, operator_form}
+use Rattle.model.specs.Readings.{expr_at, fact_at, constraint_at, Sort, says_sort, test_sort, all_sort, any_sort, not_sort, exists_sort, no_sort, sort_of, node_at}
+use Rattle.model.specs.Forms.{Form, ends, broken, no_verb, fact_form, operator_form}
 use Rattle.model.specs.Policies.{headed, ended}
 unfoldable pub use Rattle.model.specs.Layout.{read_request}
 
@@ -31,7 +31,7 @@ module _ (cs : List Constant) (vs : List Verb) (s : List ℕ) where
   unfoldable pub check_says : Form → Demands → ℕ → Reading Demands
   check_says (ends e) D at = fitted (joined D (says_demands vs (expr_at s (at + 1)) (fact_at vs s (at + 3)))) at e
   check_says broken D at = refused 3 at
-  check_says noVerb D at = refused 5 at
+  check_says no_verb D at = refused 5 at
 
   unfoldable pub check_test : Demands → ℕ → Reading Demands
   check_test D at =
@@ -40,13 +40,13 @@ module _ (cs : List Constant) (vs : List Verb) (s : List ℕ) where
 
   -- "a node's item being its own bytes without the nodes inside it": those are checked by `f`
   unfoldable pub check_by : Sort → (Demands → ℕ → Reading Demands) → Demands → ℕ → Reading Demands
-  check_by saysSort f D at = check_says (fact_form vs s (length s) (at + 3)) D at
-  check_by testSort f D at = check_test D at
-  check_by allSort f D at = choose (parts_form s (at + 1)) (check_parts f (byte_at s (at + 1)) D (at + 2)) (refused 3 at)
-  check_by anySort f D at = choose (parts_form s (at + 1)) (check_parts f (byte_at s (at + 1)) D (at + 2)) (refused 3 at)
-  check_by notSort f D at = f D (at + 1)
-  check_by existsSort f D at = choose (variable_form s (at + 1)) (f D (at + 2)) (refused 3 at)
-  check_by noSort f D at = refused 3 at
+  check_by says_sort f D at = check_says (fact_form vs s (length s) (at + 3)) D at
+  check_by test_sort f D at = check_test D at
+  check_by all_sort f D at = choose (parts_form s (at + 1)) (check_parts f (byte_at s (at + 1)) D (at + 2)) (refused 3 at)
+  check_by any_sort f D at = choose (parts_form s (at + 1)) (check_parts f (byte_at s (at + 1)) D (at + 2)) (refused 3 at)
+  check_by not_sort f D at = f D (at + 1)
+  check_by exists_sort f D at = choose (variable_form s (at + 1)) (f D (at + 2)) (refused 3 at)
+  check_by no_sort f D at = refused 3 at
 
   -- the node at `at`, after items that ask D; "node (one deeper than 8 too)"
   unfoldable pub check_node : ℕ → Demands → ℕ → Reading Demands

@@ -11,7 +11,7 @@ pub use Rattle.model.specs.Layout.{Accepted, policy_of}
 unfoldable pub use Rattle.model.specs.Layout.{read_policy}
 use Rattle.model.specs.Bytes.{byte_at, u16_at, u32_at, choose, both, Reading, got, refused, and_then}
 use Rattle.model.specs.Readings.{item_end, constant_read_at, verb_at, assertion_read_at}
-use Rattle.model.specs.Forms.{Form, ends, broken, noVerb, constant_form, verb_form, assertion_form}
+use Rattle.model.specs.Forms.{Form, ends, broken, no_verb, constant_form, verb_form, assertion_form}
 
 -- ---- every slice: version, length; a list of items; nothing left over
 
@@ -74,7 +74,7 @@ judged cs vs a at e = choose (fits_assertion cs vs a) (choose (safe_assertion a)
 unfoldable pub assertion_by : Form → List Constant → List Verb → Assertion → ℕ → Reading Assertion
 assertion_by (ends e) cs vs a at = judged cs vs a at e
 assertion_by broken cs vs a at = refused 3 at
-assertion_by noVerb cs vs a at = refused 5 at
+assertion_by no_verb cs vs a at = refused 5 at
 
 unfoldable pub assertion_item : List Constant → List Verb → List ℕ → List Assertion → ℕ → Reading Assertion
 assertion_item cs vs s before at = assertion_by (assertion_form vs s at) cs vs (assertion_read_at vs s at) at

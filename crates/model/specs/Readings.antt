@@ -108,16 +108,16 @@ assertion_end s at = at + 2 + u16_at s at
 -- ---- nodes: "1 says (issuer, fact); 2 constraint; 3 all-of and 4 any-of (count byte 1 to 8, nodes); 5 not; 6 exists (variable byte 0 to 7, node)"
 
 pub data Sort : Type 0 where
-  saysSort testSort allSort anySort notSort existsSort noSort : Sort
+  says_sort test_sort all_sort any_sort not_sort exists_sort no_sort : Sort
 
 unfoldable pub sort_of : ℕ → Sort
 sort_of b =
-    choose (eqb b 1) saysSort
-    (choose (eqb b 2) testSort
-    (choose (eqb b 3) allSort
-    (choose (eqb b 4) anySort
-    (choose (eqb b 5) notSort
-    (choose (eqb b 6) existsSort noSort)))))
+    choose (eqb b 1) says_sort
+    (choose (eqb b 2) test_sort
+    (choose (eqb b 3) all_sort
+    (choose (eqb b 4) any_sort
+    (choose (eqb b 5) not_sort
+    (choose (eqb b 6) exists_sort no_sort)))))
 
 -- where `n` nodes end, and what they are, given the same of one node
 unfoldable pub ends_by : (ℕ → ℕ) → ℕ → ℕ → ℕ
@@ -131,13 +131,13 @@ nodes_by f g (suc n) at = more (f at) (nodes_by f g n (g at))
 module _ (vs : List Verb) (s : List ℕ) where
   -- by its sort, given where nodes inside it end
   unfoldable pub end_by : Sort → (ℕ → ℕ) → ℕ → ℕ
-  end_by saysSort g at = fact_end vs s (at + 3)
-  end_by testSort g at = at + 6
-  end_by allSort g at = ends_by g (byte_at s (at + 1)) (at + 2)
-  end_by anySort g at = ends_by g (byte_at s (at + 1)) (at + 2)
-  end_by notSort g at = g (at + 1)
-  end_by existsSort g at = g (at + 2)
-  end_by noSort g at = at
+  end_by says_sort g at = fact_end vs s (at + 3)
+  end_by test_sort g at = at + 6
+  end_by all_sort g at = ends_by g (byte_at s (at + 1)) (at + 2)
+  end_by any_sort g at = ends_by g (byte_at s (at + 1)) (at + 2)
+  end_by not_sort g at = g (at + 1)
+  end_by exists_sort g at = g (at + 2)
+  end_by no_sort g at = at
 
   -- a node may hold others `d - 1` deep
   unfoldable pub node_end : ℕ → ℕ → ℕ
@@ -145,13 +145,13 @@ module _ (vs : List Verb) (s : List ℕ) where
   node_end (suc d) at = end_by (sort_of (byte_at s at)) (node_end d) at
 
   unfoldable pub node_by : Sort → (ℕ → Node) → (ℕ → ℕ) → ℕ → Node
-  node_by saysSort f g at = says (expr_at s (at + 1)) (fact_at vs s (at + 3))
-  node_by testSort f g at = test (constraint_at s (at + 1))
-  node_by allSort f g at = all_of (nodes_by f g (byte_at s (at + 1)) (at + 2))
-  node_by anySort f g at = any_of (nodes_by f g (byte_at s (at + 1)) (at + 2))
-  node_by notSort f g at = non (f (at + 1))
-  node_by existsSort f g at = exists (byte_at s (at + 1)) (f (at + 2))
-  node_by noSort f g at = all_of end
+  node_by says_sort f g at = says (expr_at s (at + 1)) (fact_at vs s (at + 3))
+  node_by test_sort f g at = test (constraint_at s (at + 1))
+  node_by all_sort f g at = all_of (nodes_by f g (byte_at s (at + 1)) (at + 2))
+  node_by any_sort f g at = any_of (nodes_by f g (byte_at s (at + 1)) (at + 2))
+  node_by not_sort f g at = non (f (at + 1))
+  node_by exists_sort f g at = exists (byte_at s (at + 1)) (f (at + 2))
+  node_by no_sort f g at = all_of end
 
   unfoldable pub node_at : ℕ → ℕ → Node
   node_at zero at = all_of end

@@ -67,10 +67,10 @@ module _ (s : List ℕ) (q p : ℕ) where
   unfolding constant_read_at
   kinds_differ h = and_no _ _ false (ne_eqb _ _ h) refl
 
-  pub alike_labels : (z : Bool) → byte_at s (q + 1) ≡ byte_at s (p + 1) → has_label (byte_at s (q + 1)) ≡ true
+  pub alike_labels_law : (z : Bool) → byte_at s (q + 1) ≡ byte_at s (p + 1) → has_label (byte_at s (q + 1)) ≡ true
       → z ≡ alike (bytes_at (byte_at s q - 1) s (q + 2)) (bytes_at (byte_at s p - 1) s (p + 2)) → z ≡ alike_constants (constant_read_at s q) (constant_read_at s p)
   unfolding constant_read_at
-  alike_labels z e k h =
+  alike_labels_law z e k h =
       and_yes (eqb (byte_at s (q + 1)) (byte_at s (p + 1))) _ z (eq-eqb _ _ e)
       (h ∙ sym (labelled (has_label (byte_at s (q + 1))) (has_label (byte_at s (p + 1))) _ _ _ _ k (ap has_label (sym e) ∙ k)))
 

@@ -16,7 +16,7 @@ use Rattle.slices.specs.declared.Step.{Step}
 use Rattle.slices.specs.declared.Step.TheVariants.{Next, Refused}
 use Rattle.slices.specs.Steps.{step}
 use Rattle.names.proofs.FormFacts.{constant_within, verb_within}
-use Rattle.slices.proofs.ListFacts.{Reads, T_true, step_yes, step_no, item_end}
+use Rattle.slices.proofs.ListFacts.{Reads, T_true, step_yes, step_no, item_end_law}
 
 -- an item that is read: of right form, not alike, what stands at its offset
 module _ {A : Type 0} (form alike : Bool) (v x : A) (at f e : ℕ) where

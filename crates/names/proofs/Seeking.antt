@@ -197,16 +197,16 @@ constants_apart c d h = not_true _ (λ e. h (constants_bucket c d e))
 pub verbs_apart : (v w : Verb) → (verb_bucket w ≡ verb_bucket v → ⊥) → alike_verbs v w ≡ false
 verbs_apart v w h = not_true _ (λ e. h (sym (alike_hash v.label w.label e)))
 
-pub constant_bucket : (c : Constant) → constant_bucket c < buckets
+pub constant_bucket_law : (c : Constant) → constant_bucket c < buckets
 unfolding choose
-constant_bucket c = go (has_label c.kind)
+constant_bucket_law c = go (has_label c.kind)
   where
     go : (b : Bool) → choose b (hash_of c.label) (c.number % buckets) < buckets
     go true = hash_small c.label
     go false = omega arith
 
-pub verb_bucket : (v : Verb) → verb_bucket v < buckets
-verb_bucket v = hash_small v.label
+pub verb_bucket_law : (v : Verb) → verb_bucket v < buckets
+verb_bucket_law v = hash_small v.label
 
 -- ---- the bucket of what stands at an offset, as the code finds it
 

@@ -107,38 +107,38 @@ module _ (ks sg s : List ℕ) where
   read_broken zero at t z n l o h = absurd (n refl)
   read_broken (suc d) at t z n l o h = on_no _ _ _ _ (lt-leb (length s) at l) (on_no _ _ _ _ o h)
 
-  read_as : (d at : ℕ) (t : List ℕ) (k y : Shape) (z : Got) → (d ≡ 0 → ⊥) → at < length s → own_form s (shape_at s at) at ≡ true → y ≡ shape_at s at → y ≡ k
+  read_as_law : (d at : ℕ) (t : List ℕ) (k y : Shape) (z : Got) → (d ≡ 0 → ⊥) → at < length s → own_form s (shape_at s at) at ≡ true → y ≡ shape_at s at → y ≡ k
       → z ≡ read_of ks sg s k (read_in ks sg s (d - 1)) at t → z ≡ read_in ks sg s d at t
   unfolding read_in
-  read_as zero at t k y z n l o e g h = absurd (n refl)
-  read_as (suc d) at t k y z n l o e g h = on_no _ _ _ _ (lt-leb (length s) at l) (on_yes _ _ _ _ o (rw (← e, g) (rw sub-one at h)))
+  read_as_law zero at t k y z n l o e g h = absurd (n refl)
+  read_as_law (suc d) at t k y z n l o e g h = on_no _ _ _ _ (lt-leb (length s) at l) (on_yes _ _ _ _ o (rw (← e, g) (rw sub-one at h)))
 
   module _ (d at : ℕ) (t : List ℕ) (y : Shape) (z : Got) (n : d ≡ 0 → ⊥) (l : at < length s) (o : own_form s (shape_at s at) at ≡ true)
       (e : y ≡ shape_at s at) where
     pub read_says : y ≡ Says → z ≡ says_in ks sg s at t → z ≡ read_in ks sg s d at t
     unfolding read_of
-    read_says g h = read_as d at t Says y z n l o e g h
+    read_says g h = read_as_law d at t Says y z n l o e g h
 
     pub read_test : y ≡ Test → z ≡ test_in ks s at t → z ≡ read_in ks sg s d at t
     unfolding read_of
-    read_test g h = read_as d at t Test y z n l o e g h
+    read_test g h = read_as_law d at t Test y z n l o e g h
 
     pub read_all : y ≡ All → z ≡ reads_by (read_in ks sg s (d - 1)) (byte_at s (at + 1)) (at + 2) t → z ≡ read_in ks sg s d at t
     unfolding read_of
-    read_all g h = read_as d at t All y z n l o e g h
+    read_all g h = read_as_law d at t All y z n l o e g h
 
     pub read_any : y ≡ Any → z ≡ reads_by (read_in ks sg s (d - 1)) (byte_at s (at + 1)) (at + 2) t → z ≡ read_in ks sg s d at t
     unfolding read_of
-    read_any g h = read_as d at t Any y z n l o e g h
+    read_any g h = read_as_law d at t Any y z n l o e g h
 
     pub read_not : y ≡ Not → z ≡ read_in ks sg s (d - 1) (at + 1) t → z ≡ read_in ks sg s d at t
     unfolding read_of
-    read_not g h = read_as d at t Not y z n l o e g h
+    read_not g h = read_as_law d at t Not y z n l o e g h
 
     pub read_exists : y ≡ Exists → z ≡ read_in ks sg s (d - 1) (at + 2) t → z ≡ read_in ks sg s d at t
     unfolding read_of
-    read_exists g h = read_as d at t Exists y z n l o e g h
+    read_exists g h = read_as_law d at t Exists y z n l o e g h
 
     pub read_nothing : y ≡ Nothing → z ≡ stop 3 at t → z ≡ read_in ks sg s d at t
     unfolding read_of
-    read_nothing g h = read_as d at t Nothing y z n l o e g h
+    read_nothing g h = read_as_law d at t Nothing y z n l o e g h

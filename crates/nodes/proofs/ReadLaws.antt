@@ -26,7 +26,7 @@ use Rattle.kinds.proofs.Meaning.{meets_append}
 use Rattle.kinds.proofs.Model.{fits_asks}
 use Rattle.phrases.specs.Tables.{Tables}
 use Rattle.phrases.specs.Phrases.{test_asks, code_form}
-use Rattle.phrases.proofs.Model.{form_is, place_is, fact_asks, test_asks, places_regular}
+use Rattle.phrases.proofs.Model.{form_is, place_is, fact_asks_law, test_asks_law, places_regular}
 use Rattle.nodes.specs.Tree.{shape_at}
 use Rattle.nodes.specs.Nodes.{next, stop, got_then, reads_by, own_form, fits_to, test_in, says_asks, says_to, says_in, read_of, read_in}
 use Rattle.nodes.specs.declared.Got.{Got}
@@ -152,7 +152,7 @@ module _ {cs : List Constant} {vs : List Verb} {ks sg : List ℕ} (X : Tables cs
   unfolding says_asks kind_term choose
   says_met at κ =
       let a = meets_append κ (ask_place cs (1, expr_at s (at + 1)) ∷ map (ask_place cs) (places vs (fact_at vs s (at + 3)))) [] in
-      rw (place_is X s (at + 1), fact_asks X s (at + 3)) (λ h. a.1 (h, tt), λ h. (a.0 h).0)
+      rw (place_is X s (at + 1), fact_asks_law X s (at + 3)) (λ h. a.1 (h, tt), λ h. (a.0 h).0)
 
   says_regular : (at : ℕ) → Regular cs (says_demands vs (expr_at s (at + 1)) (fact_at vs s (at + 3)))
   says_regular at = record {
@@ -162,7 +162,7 @@ module _ {cs : List Constant} {vs : List Verb} {ks sg : List ℕ} (X : Tables cs
   }
 
   test_met : (p : ℕ) (κ : List ℕ) → MeetsAll κ (test_asks ks s p) ↔ MeetsAll κ (asks_for cs (test_demands (constraint_at s p)))
-  test_met p κ = let a = meets_append κ (ask_test cs (constraint_at s p)) [] in rw (test_asks X s p) (λ h. a.1 (h, tt), λ h. (a.0 h).0)
+  test_met p κ = let a = meets_append κ (ask_test cs (constraint_at s p)) [] in rw (test_asks_law X s p) (λ h. a.1 (h, tt), λ h. (a.0 h).0)
 
   test_regular : (p : ℕ) → forms.operator_form s p ≡ true → Regular cs (test_demands (constraint_at s p))
   unfolding forms.operator_form
@@ -179,7 +179,7 @@ module _ {cs : List Constant} {vs : List Verb} {ks sg : List ℕ} (X : Tables cs
   unfolding says_to check_says code_form
   reads_says (forms.ends e) at t D S = reads_item cs t D _ (says_asks ks sg s at) S (says_met at) (says_regular at) vs s at e
   reads_says forms.broken at t D S = three cs at t
-  reads_says forms.noVerb at t D S = five cs at t
+  reads_says forms.no_verb at t D S = five cs at t
 
   reads_test : (at : ℕ) (t : List ℕ) (D : Demands) → State cs t D → Reads cs (test_in ks s at t) (check_test cs vs s D at)
   unfolding test_in check_test

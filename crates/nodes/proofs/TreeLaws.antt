@@ -8,7 +8,7 @@ use lib.Dec.{eqb, leb}
 use borrow.Author.Tests.{leb-true}
 use Rattle.model.specs.Syntax.{Constant, Verb, Node, says, all_of, any_of, non, exists, end, more}
 use Rattle.model.specs.Bytes.{byte_at, choose}
-use Rattle.model.specs.Readings.{expr_at, Sort, saysSort, testSort, allSort, anySort, notSort, existsSort, noSort, sort_of, ends_by, nodes_by, end_by, node_end}
+use Rattle.model.specs.Readings.{expr_at, Sort, says_sort, test_sort, all_sort, any_sort, not_sort, exists_sort, no_sort, sort_of, ends_by, nodes_by, end_by, node_end}
 use Rattle.model.specs.Readings.{node_by, node_at}
 use Rattle.wire.proofs.Reading.{choose_true, choose_false, past_end}
 use Rattle.phrases.specs.Tables.{Tables}
@@ -24,16 +24,16 @@ by_bool false f g = g refl
 -- ---- sorts
 
 abbrev pub named : Shape → Sort
-named Says = saysSort
-named Test = testSort
-named All = allSort
-named Any = anySort
-named Not = notSort
-named Exists = existsSort
-named Nothing = noSort
+named Says = says_sort
+named Test = test_sort
+named All = all_sort
+named Any = any_sort
+named Not = not_sort
+named Exists = exists_sort
+named Nothing = no_sort
 
 six : (a b c d e f : Bool)
-    → choose a saysSort (choose b testSort (choose c allSort (choose d anySort (choose e notSort (choose f existsSort noSort)))))
+    → choose a says_sort (choose b test_sort (choose c all_sort (choose d any_sort (choose e not_sort (choose f exists_sort no_sort)))))
     ≡ named (choose a Says (choose b Test (choose c All (choose d Any (choose e Not (choose f Exists Nothing))))))
 unfolding choose
 six true b c d e f = refl
@@ -49,7 +49,7 @@ unfolding sort_of shape_of later_shape
 sort_is b = six (eqb b 1) (eqb b 2) (eqb b 3) (eqb b 4) (eqb b 5) (eqb b 6)
 
 -- past the end there is no node
-past_sort : (s : List ℕ) (at : ℕ) → length s ≤ at → sort_of (byte_at s at) ≡ noSort
+past_sort : (s : List ℕ) (at : ℕ) → length s ≤ at → sort_of (byte_at s at) ≡ no_sort
 unfolding sort_of choose
 past_sort s at l = rw (past_end s at l)
 

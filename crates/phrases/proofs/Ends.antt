@@ -12,7 +12,7 @@ use Rattle.model.specs.Syntax.{Constraint}
 use Rattle.model.specs.Bytes.{byte_at}
 use Rattle.model.specs.Readings.{constraints_at}
 use Rattle.model.specs.Forms as forms
-use Rattle.model.specs.Forms.{ends, broken, noVerb, operator_form, operators_form}
+use Rattle.model.specs.Forms.{ends, broken, no_verb, operator_form, operators_form}
 pub use Rattle.model.proofs.ReaderEnds.{form_ends, form_within, forms_end, forms_within}
 use Rattle.wire.proofs.Reading.{both_first, both-second}
 use Rattle.phrases.specs.declared.Form.{Form}
@@ -25,19 +25,19 @@ pub code_ends : (φ : forms.Form) (q : ℕ) → code_form φ ≡ Ends q → φ �
 unfolding code_form
 code_ends (ends p) q e = ap ends (let d : p ≡ q = cc in d)
 code_ends broken q e = absurd (let z : ◌≡◌ {A = ℕ} 0 1 = cc in omega arith)
-code_ends noVerb q e = absurd (let z : ◌≡◌ {A = ℕ} 0 1 = cc in omega arith)
+code_ends no_verb q e = absurd (let z : ◌≡◌ {A = ℕ} 0 1 = cc in omega arith)
 
 pub code_broken : (φ : forms.Form) → code_form φ ≡ Broken → φ ≡ broken
 unfolding code_form
 code_broken (ends p) e = absurd (let z : ◌≡◌ {A = ℕ} 0 1 = cc in omega arith)
 code_broken broken e = refl
-code_broken noVerb e = absurd (let z : ◌≡◌ {A = ℕ} 0 1 = cc in omega arith)
+code_broken no_verb e = absurd (let z : ◌≡◌ {A = ℕ} 0 1 = cc in omega arith)
 
-pub code_no_verb : (φ : forms.Form) → code_form φ ≡ NoVerb → φ ≡ noVerb
+pub code_no_verb : (φ : forms.Form) → code_form φ ≡ NoVerb → φ ≡ no_verb
 unfolding code_form
 code_no_verb (ends p) e = absurd (let z : ◌≡◌ {A = ℕ} 0 1 = cc in omega arith)
 code_no_verb broken e = absurd (let z : ◌≡◌ {A = ℕ} 0 1 = cc in omega arith)
-code_no_verb noVerb e = refl
+code_no_verb no_verb e = refl
 
 -- ---- constraints
 

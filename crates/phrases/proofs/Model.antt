@@ -46,19 +46,19 @@ then_code : (x : Form) (φ : forms.Form) (f : ℕ → Form) (g : ℕ → forms.F
 unfolding then_by then_form code_form
 then_code x (forms.ends p) f g e h = rw e (h p)
 then_code x forms.broken f g e h = rw e
-then_code x forms.noVerb f g e h = rw e
+then_code x forms.no_verb f g e h = rw e
 
 -- where the levels end, counted from their start
-levels_end : (vs : List Verb) (m : ℕ) (s : List ℕ) (p : ℕ) → levels_end vs m s p ≡ p + 3 + 3 * m + 2 * arity_of vs (byte_at s (p + 3 * m + 2))
+levels_end_law : (vs : List Verb) (m : ℕ) (s : List ℕ) (p : ℕ) → levels_end vs m s p ≡ p + 3 + 3 * m + 2 * arity_of vs (byte_at s (p + 3 * m + 2))
 unfolding levels_end
-levels_end vs zero s p =
+levels_end_law vs zero s p =
     let e : p + 2 ≡ p + 3 * 0 + 2 = omega arith in
     let d : p + 3 ≡ p + 3 + 3 * 0 = omega arith in
     ap₂ (λ (x y : ℕ). x + 2 * arity_of vs (byte_at s y)) d e
-levels_end vs (suc m) s p =
+levels_end_law vs (suc m) s p =
     let e : p + 3 + 3 * m + 2 ≡ p + 3 * suc m + 2 = omega arith in
     let d : p + 3 + 3 + 3 * m ≡ p + 3 + 3 * suc m = omega arith in
-    levels_end vs m s (p + 3) ∙ ap₂ (λ (x y : ℕ). x + 2 * arity_of vs (byte_at s y)) d e
+    levels_end_law vs m s (p + 3) ∙ ap₂ (λ (x y : ℕ). x + 2 * arity_of vs (byte_at s y)) d e
 
 -- an expression by its class
 of_choice : {A : Type 0} (f : Expr → A) (b : Bool) (x y : Expr) → f (choose b x y) ≡ choose b (f x) (f y)
@@ -81,9 +81,9 @@ choose_twice false x y z = refl
 module _ {cs : List Constant} {vs : List Verb} {ks sg : List ℕ} (X : Tables cs vs ks sg) where
   -- ---- facts, and where they end
 
-  pub arity_is : (v : ℕ) → arity_by sg v ≡ arity_of vs v
+  pub arity_is_law : (v : ℕ) → arity_by sg v ≡ arity_of vs v
   unfolding arity_by
-  arity_is v = go (dec_lt (length vs) v)
+  arity_is_law v = go (dec_lt (length vs) v)
     where
       go : Dec (length vs < v) → byte_at sg (4 * v) - 1 ≡ arity_of vs v
       go (yes h) = rw (X.past v h) (sym (past_arity vs v h))
@@ -91,7 +91,7 @@ module _ {cs : List Constant} {vs : List Verb} {ks sg : List ℕ} (X : Tables cs
 
   levels_is : (m : ℕ) (s : List ℕ) (p : ℕ) → levels_by sg m s p ≡ levels_at vs m s p
   unfolding levels_by levels_at
-  levels_is zero s p = ap (λ (n : ℕ). flat (expr_at s p) (byte_at s (p + 2)) (exprs_at n s (p + 3))) (arity_is (byte_at s (p + 2)))
+  levels_is zero s p = ap (λ (n : ℕ). flat (expr_at s p) (byte_at s (p + 2)) (exprs_at n s (p + 3))) (arity_is_law (byte_at s (p + 2)))
   levels_is (suc m) s p = ap (can_say (expr_at s p) (byte_at s (p + 2))) (levels_is m s (p + 3))
 
   pub fact_is : (s : List ℕ) (p : ℕ) → fact_by sg s p ≡ fact_at vs s p
@@ -103,7 +103,7 @@ module _ {cs : List Constant} {vs : List Verb} {ks sg : List ℕ} (X : Tables cs
   next_is s p =
       let m = byte_at s p in
       let d : p + 4 + 3 * m ≡ p + 1 + 3 + 3 * m = omega arith in
-      ap₂ (λ (x a : ℕ). x + 2 * a) d (arity_is (byte_at s (p + 1 + 3 * m + 2))) ∙ sym (levels_end vs m s (p + 1))
+      ap₂ (λ (x a : ℕ). x + 2 * a) d (arity_is_law (byte_at s (p + 1 + 3 * m + 2))) ∙ sym (levels_end_law vs m s (p + 1))
 
   pub facts_are : (n : ℕ) (s : List ℕ) (p : ℕ) → facts_by sg n s p ≡ facts_at vs n s p
   unfolding facts_by facts_at
@@ -143,21 +143,21 @@ module _ {cs : List Constant} {vs : List Verb} {ks sg : List ℕ} (X : Tables cs
     unfolding phrase_form_by phrase_form code_form
     phrase_is p =
         let v = byte_at s (p + 2) in
-        ap (choose (ltb e (p + 3)) Broken) (verb_is p v ∙ sym (code_choose (ltb (length vs) v) forms.noVerb (spans p (arity_of vs v))))
+        ap (choose (ltb e (p + 3)) Broken) (verb_is p v ∙ sym (code_choose (ltb (length vs) v) forms.no_verb (spans p (arity_of vs v))))
         ∙ sym (code_choose (ltb e (p + 3)) forms.broken _)
 
-    levels_form : (m p : ℕ) → levels_form_by sg s e m p ≡ code_form (levels_form vs s e m p)
+    levels_form_law : (m p : ℕ) → levels_form_by sg s e m p ≡ code_form (levels_form vs s e m p)
     unfolding levels_form_by levels_form code_form
-    levels_form zero p = phrase_is p
-    levels_form (suc m) p =
-        ap (λ (x : Form). choose (ltb e (p + 3)) Broken (choose (ltb 1 (byte_at s (p + 2))) Broken x)) (levels_form m (p + 3))
+    levels_form_law zero p = phrase_is p
+    levels_form_law (suc m) p =
+        ap (λ (x : Form). choose (ltb e (p + 3)) Broken (choose (ltb 1 (byte_at s (p + 2))) Broken x)) (levels_form_law m (p + 3))
         ∙ ap (choose (ltb e (p + 3)) Broken) (sym (code_choose (ltb 1 (byte_at s (p + 2))) forms.broken (levels_form vs s e m (p + 3))))
         ∙ sym (code_choose (ltb e (p + 3)) forms.broken _)
 
     pub form_is : (p : ℕ) → fact_form_by sg s e p ≡ code_form (fact_form vs s e p)
     unfolding fact_form_by fact_form code_form
     form_is p =
-        ap (λ (x : Form). choose (leb e p) Broken (choose (ltb 3 (byte_at s p)) Broken x)) (levels_form (byte_at s p) (p + 1))
+        ap (λ (x : Form). choose (leb e p) Broken (choose (ltb 3 (byte_at s p)) Broken x)) (levels_form_law (byte_at s p) (p + 1))
         ∙ ap (choose (leb e p) Broken) (sym (code_choose (ltb 3 (byte_at s p)) forms.broken (levels_form vs s e (byte_at s p) (p + 1))))
         ∙ sym (code_choose (leb e p) forms.broken _)
 
@@ -188,50 +188,50 @@ module _ {cs : List Constant} {vs : List Verb} {ks sg : List ℕ} (X : Tables cs
     pub place_is : (p : ℕ) → place_at ks s p ≡ place_term cs (expr_at s p)
     place_is p = place_of (u16_at s p)
 
-    params_asks : (js : List ℕ) (k p : ℕ) → ((i : ℕ) → i < length js → byte_at sg (k + i) ≡ get_or js i 0)
+    params_asks_law : (js : List ℕ) (k p : ℕ) → ((i : ℕ) → i < length js → byte_at sg (k + i) ≡ get_or js i 0)
         → params_asks ks sg s (length js) k p ≡ map (ask_place cs) (pair js (exprs_at (length js) s p))
     unfolding params_asks exprs_at
-    params_asks [] k p h = refl
-    params_asks (j ∷ js) k p h =
+    params_asks_law [] k p h = refl
+    params_asks_law (j ∷ js) k p h =
         let z : k + 0 ≡ k = omega arith in
         ap₂ ◌∷◌
         (ap₂ (λ (a b : ℕ). same a (kind_term b)) (place_is p) (ap (byte_at sg) (sym z) ∙ h 0 (omega arith)))
-        (params_asks js (k + 1) (p + 2) (λ i l. let w : k + 1 + i ≡ k + suc i = omega arith in ap (byte_at sg) w ∙ h (suc i) (omega arith)))
+        (params_asks_law js (k + 1) (p + 2) (λ i l. let w : k + 1 + i ≡ k + suc i = omega arith in ap (byte_at sg) w ∙ h (suc i) (omega arith)))
 
     words_asks : (v p : ℕ) → params_asks ks sg s (arity_by sg v) (4 * v + 1) p ≡ map (ask_place cs) (pair (param_kinds vs v) (exprs_at (arity_of vs v) s p))
     unfolding arity_of
     words_asks v p =
-        ap (λ (n : ℕ). params_asks ks sg s n (4 * v + 1) p) (arity_is v)
-        ∙ params_asks (param_kinds vs v) (4 * v + 1) p (λ i l. X.params v i (go i l (dec_lt (length vs) v)) l)
+        ap (λ (n : ℕ). params_asks ks sg s n (4 * v + 1) p) (arity_is_law v)
+        ∙ params_asks_law (param_kinds vs v) (4 * v + 1) p (λ i l. X.params v i (go i l (dec_lt (length vs) v)) l)
       where
         go : (i : ℕ) → i < length (param_kinds vs v) → Dec (length vs < v) → v ≤ length vs
         go i l (yes h) = absurd (let e : length (param_kinds vs v) ≡ 0 = ap length (past_kinds vs v h) in omega arith)
         go i l (no h) = omega arith
 
-    levels_asks : (m p : ℕ) → levels_asks ks sg s m p ≡ map (ask_place cs) (places vs (levels_at vs m s p))
+    levels_asks_law : (m p : ℕ) → levels_asks ks sg s m p ≡ map (ask_place cs) (places vs (levels_at vs m s p))
     unfolding levels_asks levels_at kind_term choose
-    levels_asks zero p = ap₂ (λ (a : ℕ) (l : List Ask). same a 8 ∷ l) (place_is p) (words_asks (byte_at s (p + 2)) (p + 3))
-    levels_asks (suc m) p = ap₂ (λ (a : ℕ) (l : List Ask). same a 8 ∷ l) (place_is p) (levels_asks m (p + 3))
+    levels_asks_law zero p = ap₂ (λ (a : ℕ) (l : List Ask). same a 8 ∷ l) (place_is p) (words_asks (byte_at s (p + 2)) (p + 3))
+    levels_asks_law (suc m) p = ap₂ (λ (a : ℕ) (l : List Ask). same a 8 ∷ l) (place_is p) (levels_asks_law m (p + 3))
 
-    pub fact_asks : (p : ℕ) → fact_asks ks sg s p ≡ map (ask_place cs) (places vs (fact_at vs s p))
+    pub fact_asks_law : (p : ℕ) → fact_asks ks sg s p ≡ map (ask_place cs) (places vs (fact_at vs s p))
     unfolding fact_asks fact_at
-    fact_asks p = levels_asks (byte_at s p) (p + 1)
+    fact_asks_law p = levels_asks_law (byte_at s p) (p + 1)
 
-    pub facts_asks : (n p : ℕ) → facts_asks ks sg s n p ≡ map (ask_place cs) (each (facts_at vs n s p) (places vs))
+    pub facts_asks_law : (n p : ℕ) → facts_asks ks sg s n p ≡ map (ask_place cs) (each (facts_at vs n s p) (places vs))
     unfolding facts_asks facts_at
-    facts_asks zero p = refl
-    facts_asks (suc n) p =
-        ap₂ ◌++◌ (fact_asks p) (facts_asks n (fact_next sg s p) ∙ ap (λ (q : ℕ). map (ask_place cs) (each (facts_at vs n s q) (places vs))) (next_is s p))
+    facts_asks_law zero p = refl
+    facts_asks_law (suc n) p =
+        ap₂ ◌++◌ (fact_asks_law p) (facts_asks_law n (fact_next sg s p) ∙ ap (λ (q : ℕ). map (ask_place cs) (each (facts_at vs n s q) (places vs))) (next_is s p))
         ∙ sym (map-append (ask_place cs) (places vs (fact_at vs s p)) (each (facts_at vs n s (fact_end vs s p)) (places vs)))
 
-    pub test_asks : (p : ℕ) → test_asks ks s p ≡ ask_test cs (constraint_at s p)
+    pub test_asks_law : (p : ℕ) → test_asks ks s p ≡ ask_test cs (constraint_at s p)
     unfolding test_asks ask_test
-    test_asks p = ap₂ (λ (l r : ℕ). same l r ∷ operator_asks (byte_at s p) l) (term_is (p + 1)) (term_is (p + 3))
+    test_asks_law p = ap₂ (λ (l r : ℕ). same l r ∷ operator_asks (byte_at s p) l) (term_is (p + 1)) (term_is (p + 3))
 
-    pub tests_asks : (n p : ℕ) → tests_asks ks s n p ≡ each (constraints_at n s p) (ask_test cs)
+    pub tests_asks_law : (n p : ℕ) → tests_asks ks s n p ≡ each (constraints_at n s p) (ask_test cs)
     unfolding tests_asks constraints_at
-    tests_asks zero p = refl
-    tests_asks (suc n) p = ap₂ ◌++◌ (test_asks p) (tests_asks n (p + 5))
+    tests_asks_law zero p = refl
+    tests_asks_law (suc n) p = ap₂ ◌++◌ (test_asks_law p) (tests_asks_law n (p + 5))
 
   -- ---- the places of a fact have kinds of the four
 
@@ -241,8 +241,8 @@ module _ {cs : List Constant} {vs : List Verb} {ks sg : List ℕ} (X : Tables cs
   pair_kinds (j ∷ js) (e ∷ es) p m =
       ⊎_elim (λ q. Memᴰ.head (ap (λ (x : ℕ × Expr). x.0) q)) (λ n. Memᴰ.tail (pair_kinds js es p n)) (Memᴰ.cases_cons m)
 
-  param_kinds : (v k : ℕ) → Memᴰ k (param_kinds vs v) → (1 ≤ k) × (k ≤ 4)
-  param_kinds v k m = go (dec_lt (length vs) v)
+  param_kinds_law : (v k : ℕ) → Memᴰ k (param_kinds vs v) → (1 ≤ k) × (k ≤ 4)
+  param_kinds_law v k m = go (dec_lt (length vs) v)
     where
       go : Dec (length vs < v) → (1 ≤ k) × (k ≤ 4)
       go (yes h) = absurd (Memᴰ.not-nil (let n : Memᴰ k [] = rw (past_kinds vs v h) at m in n))
@@ -252,5 +252,5 @@ module _ {cs : List Constant} {vs : List Verb} {ks sg : List ℕ} (X : Tables cs
   first_kind p e q = rw q (omega arith, omega arith)
 
   pub places_regular : (f : Fact Expr) (p : ℕ × Expr) → Memᴰ p (places vs f) → (1 ≤ p.0) × (p.0 ≤ 4)
-  places_regular (flat s v ps) p m = ⊎_elim (first_kind p s) (λ n. param_kinds v p.0 (pair_kinds (param_kinds vs v) ps p n)) (Memᴰ.cases_cons m)
+  places_regular (flat s v ps) p m = ⊎_elim (first_kind p s) (λ n. param_kinds_law v p.0 (pair_kinds (param_kinds vs v) ps p n)) (Memᴰ.cases_cons m)
   places_regular (can_say s d f) p m = ⊎_elim (first_kind p s) (places_regular f p) (Memᴰ.cases_cons m)

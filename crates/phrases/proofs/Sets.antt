@@ -23,8 +23,8 @@ pub marked_length : (vs m : List ℕ) → length (marked vs m) ≡ length m
 marked_length [] m = refl
 marked_length (v ∷ vs) m = marked_length vs (set m v 1) ∙ length-set m v 1
 
-set_at : (m : List ℕ) (v w x : ℕ) → w < length m → get_or (set m v x) w 0 ≡ choose (eqb w v) x (get_or m w 0)
-set_at m v w x l = by_eq w v
+set_at_law : (m : List ℕ) (v w x : ℕ) → w < length m → get_or (set m v x) w 0 ≡ choose (eqb w v) x (get_or m w 0)
+set_at_law m v w x l = by_eq w v
     (λ e. rw (choose_true x (get_or m w 0) (eq-eqb w v e)) (rw e (get_or-set_same m v x 0 (rw (sym e) l))))
     (λ n. rw (choose_false x (get_or m w 0) (ne_eqb w v n)) (get_or-set_other m v w x 0 n))
 
@@ -40,7 +40,7 @@ unfolding choose
 marked_at [] m v l = refl
 marked_at (w ∷ vs) m v l =
     marked_at vs (set m w 1) v (rw (length-set m w 1) l)
-    ∙ ap (choose (member v vs) 1) (set_at m w v 1 l)
+    ∙ ap (choose (member v vs) 1) (set_at_law m w v 1 l)
     ∙ choose_or (eqb v w) (member v vs) (get_or m v 0)
 
 none_at : (v : ℕ) → get_or none v 0 ≡ 0
@@ -200,7 +200,7 @@ choose_out false false c e = refl
 pub drop_is : (v : ℕ) (vs : List ℕ) → set (marked vs none) v 0 ≡ marked (without v vs) none
 drop_is v vs = same_marks (set (marked vs none) v 0) (marked (without v vs) none)
     (length-set (marked vs none) v 0 ∙ none_length vs) (none_length (without v vs)) (λ w l.
-    set_at (marked vs none) v w 0 (rw (none_length vs) l)
+    set_at_law (marked vs none) v w 0 (rw (none_length vs) l)
     ∙ ap (choose (eqb w v) 0) (of_none vs w l)
     ∙ choose_out (member w vs) (eqb w v) (eqb v w) (eqb_turned v w)
     ∙ ap bit (sym (member_keep (λ x. not (eqb v x)) w vs))

@@ -43,7 +43,7 @@ module _ (sg : List ℕ) where
 unfoldable pub code_form : forms.Form → Form
 code_form (forms.ends p) = Ends p
 code_form forms.broken = Broken
-code_form forms.noVerb = NoVerb
+code_form forms.no_verb = NoVerb
 
 unfoldable pub then_by : Form → (ℕ → Form) → Form
 then_by (Ends p) f = f p

@@ -21,7 +21,7 @@ use Rattle.policy.specs.declared.Part.{Part}
 use Rattle.slices.specs.Items.{constants_at}
 use Rattle.policy.specs.Index.{held, index_of, refusal, handed_out, label_in, label_of, no_part, part_at, label_part}
 use Rattle.names.proofs.FormFacts.{constant_within, constant_two}
-use Rattle.slices.proofs.ListFacts.{list_got, items_length, items_starts, contents_at, contents_length, starts_at}
+use Rattle.slices.proofs.ListFacts.{list_got, items_length, items_starts, contents_at, contents_length, starts_at_law}
 use Rattle.names.proofs.ItemFacts.{constant_reads}
 use Rattle.policy.proofs.TableFacts.{held_at, kind_is}
 use Rattle.policy.proofs.PolicyFacts.{Constants, constants_counted, constants_right}
@@ -75,15 +75,15 @@ module _ (s : List ℕ) (A : Accepted) (e : ℕ) (h : read_policy s ≡ got A e)
   offset_at c l =
       ap (λ (is : List (Item Constant)). get_or (held max_constants (map (λ (i : Item Constant). i.at) is)) c 0) there.constants
       ∙ held_at max_constants _ c ∙ ap (λ (o : List ℕ). get_or o c 0) (items_starts (constant_read_at s) (item_end s) (u16_at s 5) 7)
-      ∙ starts_at (item_end s) (u16_at s 5) 7 c l
+      ∙ starts_at_law (item_end s) (u16_at s 5) 7 c l
 
-  constant_at_law : (c : ℕ) → c < u16_at s 5 → get_or (contents A.constants) c no_constant ≡ constant_read_at s (ends_by (item_end s) c 7)
-  constant_at_law c l = ap (λ (is : List (Item Constant)). get_or (contents is) c no_constant) there.constants
+  constant_at : (c : ℕ) → c < u16_at s 5 → get_or (contents A.constants) c no_constant ≡ constant_read_at s (ends_by (item_end s) c 7)
+  constant_at c l = ap (λ (is : List (Item Constant)). get_or (contents is) c no_constant) there.constants
       ∙ contents_at (constant_read_at s) (item_end s) (u16_at s 5) 7 c no_constant l
 
   kind_at : (c : ℕ) → c < u16_at s 5 → get_or (index_of A).kinds c 0 ≡ byte_at s (ends_by (item_end s) c 7 + 1)
   unfolding index_of constant_read_at
-  kind_at c l = kind_is (contents A.constants) c ∙ ap (λ (d : Constant). d.kind) (constant_at_law c l)
+  kind_at c l = kind_is (contents A.constants) c ∙ ap (λ (d : Constant). d.kind) (constant_at c l)
 
   part_at_law : (c : ℕ) → c < u16_at s 5 → label_part (index_of A) s c ≡ choose (has_label (byte_at s (ends_by (item_end s) c 7 + 1)))
       (part_at s (ends_by (item_end s) c 7)) no_part
@@ -94,8 +94,8 @@ module _ (s : List ℕ) (A : Accepted) (e : ℕ) (h : read_policy s ≡ got A e)
   unfolding label_part
   no_part_law c l = choose_false _ _ (le-ltb c _ (rw counts l))
 
-  no_constant : (c : ℕ) → u16_at s 5 ≤ c → get_or (contents A.constants) c no_constant ≡ no_constant
-  no_constant c l =
+  no_constant_law : (c : ℕ) → u16_at s 5 ≤ c → get_or (contents A.constants) c no_constant ≡ no_constant
+  no_constant_law c l =
       ap (λ (is : List (Item Constant)). get_or (contents is) c no_constant) there.constants
       ∙ get_or-eq_default (contents (constants_at s (u16_at s 5) 7)) no_constant (rw (contents_length (constant_read_at s) (item_end s) (u16_at s 5) 7) l)
 
@@ -133,8 +133,8 @@ module _ (s : List ℕ) (c : ℕ) where
           by (yes l) =
               let at = ends_by (item_end s) c 7 in
               ap (slice s) (part_at_law s A e h c l) ∙ label_slice s at ((there s A e h).right c l) (has_label (byte_at s (at + 1)))
-              ∙ sym (ap (λ (d : Constant). d.label) (constant_at_law s A e h c l))
-          by (no l) = ap (slice s) (no_part_law s A e h c (omega arith)) ∙ sym (ap (λ (d : Constant). d.label) (no_constant s A e h c (omega arith)))
+              ∙ sym (ap (λ (d : Constant). d.label) (constant_at s A e h c l))
+          by (no l) = ap (slice s) (no_part_law s A e h c (omega arith)) ∙ sym (ap (λ (d : Constant). d.label) (no_constant_law s A e h c (omega arith)))
       go (refused n p) h = ap (slice s) (none_refused s n p c)
 
   pub label_inside : Within s (label_part (handed_out (read_policy s)) s c)
@@ -151,9 +151,9 @@ module _ (s : List ℕ) (c : ℕ) where
       go (refused n p) h = subst (Within s) (sym (none_refused s n p c)) (none_within s)
 
   -- what the code needs on the way
-  pub few_constants : (handed_out (read_policy s)).constants ≤ max_constants
+  pub few_constants_law : (handed_out (read_policy s)).constants ≤ max_constants
   unfolding handed_out refusal
-  few_constants = go (read_policy s) refl
+  few_constants_law = go (read_policy s) refl
     where
       go : (r : Reading Accepted) → read_policy s ≡ r → (handed_out r).constants ≤ max_constants
       go (got A e) h = rw (counts s A e h) (there s A e h).few
@@ -173,7 +173,7 @@ module _ (s : List ℕ) (c : ℕ) where
 
 module _ (s : List ℕ) (x : Index) (h : x ≡ handed_out (read_policy s)) (c : ℕ) where
   pub few : x.constants ≤ max_constants
-  few = rw h (few_constants s c)
+  few = rw h (few_constants_law s c)
 
   pub stands : c < x.constants → item_end s (get_or x.constant_at c 0) ≤ length s
   stands = rw h (constant_stands s c)

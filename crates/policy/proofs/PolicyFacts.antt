@@ -12,7 +12,7 @@ use Rattle.model.specs.Syntax.{Assertion, Constant, Verb}
 use Rattle.model.specs.Bytes.{byte_at, u16_at, choose, Reading, got, refused, and_then}
 use Rattle.model.specs.Readings.{item_end, ends_by, constant_read_at, verb_at, assertion_read_at, assertion_end}
 use Rattle.model.specs.Forms as forms
-use Rattle.model.specs.Forms.{ends, broken, noVerb, constant_form, verb_form, assertion_form}
+use Rattle.model.specs.Forms.{ends, broken, no_verb, constant_form, verb_form, assertion_form}
 use Rattle.model.specs.Policies.{Item, contents, version_there, length_right, headed, ended, items_from, list_at, constant_item, verb_item, judged, assertion_by}
 use Rattle.model.specs.Policies.{assertion_item, Accepted, assertions_from, verbs_from, constants_from, read_policy}
 use Rattle.model.proofs.ReadFacts.{never, choose_yes, and_then_got}
@@ -27,7 +27,7 @@ use Rattle.assertions.specs.Assertions.{item_by, items_by, assertion_form_by, as
 use Rattle.slices.proofs.ListFacts.{Reads, Counted, counted, step_refused, step_next, list_is, list_got, list_right, items_length, items_starts}
 use Rattle.slices.proofs.ListFacts.{contents_each, T_true}
 use Rattle.names.proofs.ItemFacts.{constant_reads, verb_reads, constant_right, verb_right}
-use Rattle.policy.proofs.TableFacts.{kinds_are, rows_are, constant_kind, Signed, verb_signed, verb_arity, tables}
+use Rattle.policy.proofs.TableFacts.{kinds_are_law, rows_are, constant_kind, Signed, verb_signed, verb_arity, tables}
 use Rattle.assertions.proofs.AssertionFacts.{Shaped, shaped, item_is}
 
 -- ---- assertions, one after the other
@@ -48,7 +48,7 @@ module _ (cs : List Constant) (vs : List Verb) (s : List ℕ) where
       go : (φ : forms.Form) → assertion_form vs s at ≡ φ → assertion_by φ cs vs (assertion_read_at vs s at) at ≡ got x e → Got at e x
       go (ends q) f g = let r = judged_got at q x e g in record { value = r.0; shape = subst (λ (d : ℕ). Shaped vs s at d) (sym r.1) (shaped vs s at q f) }
       go broken f g = absurd (never 3 at e x g)
-      go noVerb f g = absurd (never 5 at e x g)
+      go no_verb f g = absurd (never 5 at e x g)
 
   pub assertion_reads : Reads s (assertion_item cs vs s) (assertion_read_at vs s) (assertion_end s)
   assertion_reads = record {
@@ -135,7 +135,7 @@ module _ (s : List ℕ) (p : ℕ) (K : Constants s p) where
     pub read_tables : Tables (contents (constants_at s (u16_at s 5) 7)) (contents (verbs_at s (u16_at s p) (p + 2)))
         (kinds_at s (u16_at s 5) 7) (signatures_at s (u16_at s p) (p + 2))
     read_tables =
-        rw (kinds_are s (u16_at s 5) 7, signatures_are)
+        rw (kinds_are_law s (u16_at s 5) 7, signatures_are)
         (tables _ _
         (contents_each (constant_read_at s) (item_end s) (λ (c : Constant). c.kind ≤ 4) (u16_at s 5) 7 (λ j l. constant_kind s _ (constants_right j l)))
         (contents_each (verb_at s) (item_end s) Signed (u16_at s p) (p + 2) (λ j l. verb_signed s _ (verbs_right j l))))
@@ -144,11 +144,11 @@ module _ (s : List ℕ) (p : ℕ) (K : Constants s p) where
     abbrev rest : ℕ → Reading Accepted
     rest = assertions_from s (constants_at s (u16_at s 5) 7) (verbs_at s (u16_at s p) (p + 2))
 
-    abbrev with_assertions : List (Item Assertion) → Accepted
-    with_assertions = made s (constants_at s (u16_at s 5) 7) (verbs_at s (u16_at s p) (p + 2))
+    abbrev with_assertions_law : List (Item Assertion) → Accepted
+    with_assertions_law = made s (constants_at s (u16_at s 5) 7) (verbs_at s (u16_at s p) (p + 2))
 
     abbrev whole : Accepted
-    whole = with_assertions (assertions_at (contents (verbs_at s (u16_at s p) (p + 2))) s (u16_at s q) (q + 2))
+    whole = with_assertions_law (assertions_at (contents (verbs_at s (u16_at s p) (p + 2))) s (u16_at s q) (q + 2))
 
     -- the assertions are in order: their count, and all that was read
     rest_got : (e : ℕ) → step (rest q) ≡ Next e → Counted s 0 max_assertions q × (rest q ≡ got whole e)
@@ -158,12 +158,12 @@ module _ (s : List ℕ) (p : ℕ) (K : Constants s p) where
         let a = and_then_got _ _ r.0 e r.1 in
         let l = list_got s 0 max_assertions _ _ _ (assertion_reads _ _ s) q a.0 a.1 a.2 in
         let w = (choose_yes _ _ 3 a.1 r.0 e a.3).1 in
-        let x : r.0 ≡ with_assertions a.0 = cc in
-        (l.2, r.1 ∙ ap (λ (A : Accepted). got A e) (x ∙ ap with_assertions l.0))
+        let x : r.0 ≡ with_assertions_law a.0 = cc in
+        (l.2, r.1 ∙ ap (λ (A : Accepted). got A e) (x ∙ ap with_assertions_law l.0))
 
     index_is : index_at s p q (kinds_at s (u16_at s 5) 7) (signatures_at s (u16_at s p) (p + 2)) ≡ index_of whole
     unfolding index_at index_of
-    index_is = rw (kinds_are s (u16_at s 5) 7, signatures_are) (simp (items_length, items_starts))
+    index_is = rw (kinds_are_law s (u16_at s 5) 7, signatures_are) (simp (items_length, items_starts))
 
     module _ (ks sg : List ℕ) (k : ks ≡ kinds_at s (u16_at s 5) 7) (g : sg ≡ signatures_at s (u16_at s p) (p + 2)) (y : Step) (d : y ≡ assertions_by ks sg s q) where
       rest_is : step (rest q) ≡ y

@@ -62,9 +62,9 @@ unfolding starts_at items_at constant_read_at kind_of
 kinds_map s zero p = refl
 kinds_map s (suc n) p = ap (λ (l : List ℕ). byte_at s (p + 1) ∷ l) (kinds_map s n (item_end s p))
 
-pub kinds_are : (s : List ℕ) (n p : ℕ) → kinds_at s n p ≡ kind_table (contents (constants_at s n p))
+pub kinds_are_law : (s : List ℕ) (n p : ℕ) → kinds_at s n p ≡ kind_table (contents (constants_at s n p))
 unfolding kinds_at kind_table
-kinds_are s n p = ap (held 255) (kinds_map s n p)
+kinds_are_law s n p = ap (held 255) (kinds_map s n p)
 
 pub kind_is : (cs : List Constant) (c : ℕ) → byte_at (kind_table cs) c ≡ kind_at cs c
 unfolding kind_table
@@ -192,9 +192,9 @@ module _ (cs : List Constant) (vs : List Verb) (low : (c : Constant) → Memᴰ 
           let g = signed q.0 q.1 in
           subst (λ (r : List ℕ). (length r ≤ 3) × ((k : ℕ) → Memᴰ k r → (1 ≤ k) × (k ≤ 4))) (sym q.2) (g.few, g.known)
 
-  params_row : (v : ℕ) → param_kinds vs v ≡ get_or rows v []
-  params_row zero = refl
-  params_row (suc v) = refl
+  params_row_law : (v : ℕ) → param_kinds vs v ≡ get_or rows v []
+  params_row_law zero = refl
+  params_row_law (suc v) = refl
 
   rows_length : length rows ≡ suc (length vs)
   rows_length = ap suc (simp length-map)
@@ -204,7 +204,7 @@ module _ (cs : List Constant) (vs : List Verb) (low : (c : Constant) → Memᴰ 
   in_table v j l k =
       held_at 260 (each rows row_of) (4 * v + j)
       ∙ in_row rows (λ r m. (rows_signed r m).0) v j (let e = rows_length in omega arith) k
-      ∙ ap (λ (r : List ℕ). get_or (row_of r) j 0) (sym (params_row v))
+      ∙ ap (λ (r : List ℕ). get_or (row_of r) j 0) (sym (params_row_law v))
 
   kind_low : (c : ℕ) → kind_at cs c ≤ 4
   kind_low c = go (dec_lt c (length cs))
@@ -216,7 +216,7 @@ module _ (cs : List Constant) (vs : List Verb) (low : (c : Constant) → Memᴰ 
           subst (λ (d : Constant). d.kind ≤ 4) (sym e) (omega arith)
 
   row_signed : (v : ℕ) → v ≤ length vs → (length (param_kinds vs v) ≤ 3) × ((k : ℕ) → Memᴰ k (param_kinds vs v) → (1 ≤ k) × (k ≤ 4))
-  row_signed v l = rw (params_row v) (rows_signed (get_or rows v []) (get_d_in rows v [] (let e = rows_length in omega arith)))
+  row_signed v l = rw (params_row_law v) (rows_signed (get_or rows v []) (get_d_in rows v [] (let e = rows_length in omega arith)))
 
   past : (v : ℕ) → length vs < v → byte_at (verb_table vs) (4 * v) ≡ 0
   unfolding verb_table rows_of

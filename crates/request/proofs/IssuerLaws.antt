@@ -20,7 +20,7 @@ use Rattle.phrases.specs.Marks.{marked}
 use Rattle.nodes.specs.Tree.{tree_in}
 use Rattle.request.specs.Issuing.{constants_by, world_by}
 use Rattle.nodes.proofs.TreeLaws.{tree_is}
-use Rattle.safety.proofs.SafeLaws.{set_at, member_append}
+use Rattle.safety.proofs.SafeLaws.{set_at_law, member_append}
 
 -- constant p is of a kind other than 0
 later : (k p n : ℕ) (cs : List Constant) → p < n → member p (of_kind k n cs) ≡ false
@@ -99,7 +99,7 @@ pub issuers_are : (ks sg s z : List ℕ) → z ≡ marked (issuers (tree_in sg s
     → Tables W.constants W.verbs ks sg
     → (p : ℕ) → p < 255 → get_or z p 0 ≡ cond (member p (issuers (node_at W.verbs s max_depth first_node_at) W)) 1 0
 issuers_are ks sg s z e W X p h =
-    ap (λ (l : List ℕ). get_or l p 0) e ∙ set_at (issuers (tree_in sg s max_depth first_node_at) (world_by ks)) (zeros 255) p (rw (length-replicate {A = ℕ} 255 0) h)
+    ap (λ (l : List ℕ). get_or l p 0) e ∙ set_at_law (issuers (tree_in sg s max_depth first_node_at) (world_by ks)) (zeros 255) p (rw (length-replicate {A = ℕ} 255 0) h)
     ∙ ap₂ (λ (b : Bool) (x : ℕ). cond b 1 x)
     (ap (λ (n : Node). member p (issuers n (world_by ks))) (tree_is X s max_depth first_node_at)
     ∙ issuers_same (world_by ks) W (same_principals W.constants ks X.kinds) p (node_at W.verbs s max_depth first_node_at))

@@ -87,8 +87,8 @@ module _ (W : World) (sg s : List ℕ) where
       pub issuers_test : y ≡ Test → z ≡ m → z ≡ marked (issuers (tree_in sg s d at) W) m
       issuers_test g h = rw (tree_test sg s d at y n l e g) h
 
-      pub issuers_all : y ≡ All → z ≡ marked (issuers_all (nodes_in (d - 1) (byte_at s (at + 1)) (at + 2)) W) m → z ≡ marked (issuers (tree_in sg s d at) W) m
-      issuers_all g h = rw (tree_all sg s d at y n l e g) h
+      pub issuers_all_law : y ≡ All → z ≡ marked (issuers_all (nodes_in (d - 1) (byte_at s (at + 1)) (at + 2)) W) m → z ≡ marked (issuers (tree_in sg s d at) W) m
+      issuers_all_law g h = rw (tree_all sg s d at y n l e g) h
 
       pub issuers_any : y ≡ Any → z ≡ marked (issuers_all (nodes_in (d - 1) (byte_at s (at + 1)) (at + 2)) W) m → z ≡ marked (issuers (tree_in sg s d at) W) m
       issuers_any g h = rw (tree_any sg s d at y n l e g) h

@@ -51,16 +51,16 @@ module _ (vs : List Verb) where
   pub head_in : (v k : ℕ) (e : Expr) (ps : List (ℕ × Expr)) → Memᴰ v (vars_of e) → In v ((k, e) ∷ ps)
   head_in v k e ps m = (k, Memᴰ.head (ap (λ (y : Expr). (k, y)) (sym (here v e m))))
 
-  pub fact_in : (v : ℕ) (f : Fact Expr) → Arity vs f → Memᴰ v (vars_in f) → In v (places vs f)
-  fact_in v (flat s w ps) a m =
+  pub fact_in_law : (v : ℕ) (f : Fact Expr) → Arity vs f → Memᴰ v (vars_in f) → In v (places vs f)
+  fact_in_law v (flat s w ps) a m =
       ⊎_elim (head_in v principal s (pair (param_kinds vs w) ps))
       (λ n.
       let r = each_of vars_of ps n in
       let q = pair_in r.0 (param_kinds vs w) ps a r.1 in
       (q.0, Memᴰ.tail (subst (λ (e : Expr). Memᴰ (q.0, e) (pair (param_kinds vs w) ps)) (here v r.0 r.2) q.1)))
       (Memᴰ.append_cases (vars_of s) m)
-  fact_in v (can_say s d f) a m =
-      ⊎_elim (head_in v principal s (places vs f)) (λ n. let r = fact_in v f a n in (r.0, Memᴰ.tail r.1)) (Memᴰ.append_cases (vars_of s) m)
+  fact_in_law v (can_say s d f) a m =
+      ⊎_elim (head_in v principal s (places vs f)) (λ n. let r = fact_in_law v f a n in (r.0, Memᴰ.tail r.1)) (Memᴰ.append_cases (vars_of s) m)
 
   own : (v k j : ℕ) (e : Expr) → ◌≡◌ {A = ℕ × Expr} (k, var v) (j, e) → Memᴰ v (vars_of e)
   own v k j e q = subst (λ (x : Expr). Memᴰ v (vars_of x)) (ap (λ (p : ℕ × Expr). p.1) q) (Memᴰ.head refl)
@@ -158,7 +158,7 @@ module _ (vs : List Verb) where
       no false t u = u
 
   says_covered : (e : Expr) (f : Fact Expr) → Arity vs f → (us : List ℕ) → Covered us ((principal, e) ∷ places vs f) (vars_of e ++ vars_in f)
-  says_covered e f a us v m = inr (⊎_elim (head_in v principal e (places vs f)) (λ n. let r = fact_in v f a n in (r.0, Memᴰ.tail r.1))
+  says_covered e f a us v m = inr (⊎_elim (head_in v principal e (places vs f)) (λ n. let r = fact_in_law v f a n in (r.0, Memᴰ.tail r.1))
       (Memᴰ.append_cases (vars_of e) m))
 
   mutual

@@ -42,7 +42,7 @@ use Rattle.nodes.proofs.TreeLaws.{by_bool, tree_is}
 use Rattle.nodes.proofs.ReadLaws.{State, state_fits, Reads, reads_node, state_none}
 use Rattle.model.proofs.CheckedNodes.{Sound, SoundAll, node_checked}
 use Rattle.safety.proofs.SafeLaws.{Below, Small, SmallAll, mark_at, judged_is}
-use Rattle.request.proofs.KindLaws.{head_in, fact_in, place_used, told, kind_none, kind_some}
+use Rattle.request.proofs.KindLaws.{head_in, fact_in_law, place_used, told, kind_none, kind_some}
 use Rattle.model.proofs.RequestReader.{request_is as plainly}
 use Rattle.model.specs.Nodes.{computed_request}
 use Rattle.model.proofs.Tests.{true_T}
@@ -56,10 +56,10 @@ module _ (vs : List Verb) where
   mutual
     small : (n : Node) → Sound vs n → ((v k : ℕ) → Memᴰ (k, var v) (demands_in n vs).places → v < 8)
         → ((c : Constraint) → Memᴰ c (demands_in n vs).tests → Below (vars_test c)) → Small n
-    small (says e f) s l t = λ v m. let r = says_in v m in l v r.0 r.1
+    small (says e f) s l t = λ v m. let r = says_in_law v m in l v r.0 r.1
       where
-        says_in : (v : ℕ) → Memᴰ v (vars_of e ++ vars_in f) → (k : ℕ) × Memᴰ (k, var v) ((principal, e) ∷ places vs f)
-        says_in v m = ⊎_elim (λ a. head_in vs v principal e (places vs f) a) (λ a. let r = fact_in vs v f s a in (r.0, Memᴰ.tail r.1))
+        says_in_law : (v : ℕ) → Memᴰ v (vars_of e ++ vars_in f) → (k : ℕ) × Memᴰ (k, var v) ((principal, e) ∷ places vs f)
+        says_in_law v m = ⊎_elim (λ a. head_in vs v principal e (places vs f) a) (λ a. let r = fact_in_law vs v f s a in (r.0, Memᴰ.tail r.1))
             (Memᴰ.append_cases (vars_of e) m)
     small (test c) s l t = t c (Memᴰ.head refl)
     small (all_of ns) s l t = small_all ns s l t
@@ -129,8 +129,8 @@ module _ (cs : List Constant) (vs : List Verb) (n : Node) (t : List ℕ) (S : St
           ∙ sym (kind_none ps v (λ k m. not_member v (free n ++ binders n) e
           (⊎_elim (Memᴰ.append_left _) (Memᴰ.append_right (free n)) (place_used vs n v k m))))
 
-  pub kinds_are : cell_kinds t (marked (binders n) (marked (free n) none)) ≡ map (kind_of (demands_in n vs).places) variables
-  kinds_are = same_variables (cell_kind t (marked (binders n) (marked (free n) none))) (kind_of (demands_in n vs).places) kind_at
+  pub kinds_are_law : cell_kinds t (marked (binders n) (marked (free n) none)) ≡ map (kind_of (demands_in n vs).places) variables
+  kinds_are_law = same_variables (cell_kind t (marked (binders n) (marked (free n) none))) (kind_of (demands_in n vs).places) kind_at
 
 -- ---- the answer
 
@@ -161,7 +161,7 @@ module _ {cs : List Constant} {vs : List Verb} {ks sg : List ℕ} (X : Tables cs
         (λ o. rw (
           judged_node ∙ choose_true _ _ o,
           choose_true (got (request_of cs vs s) e) (refused 7 first_node_at) o,
-          ← kinds_are cs vs node t S sound o,
+          ← kinds_are_law cs vs node t S sound o,
           ← frees_are (free node),
         ) (choose_true _ _ refl))
         (λ o. rw (judged_node ∙ choose_false _ _ o, choose_false (got (request_of cs vs s) e) (refused 7 first_node_at) o) (choose_false _ _ refl))

@@ -109,9 +109,9 @@ module _ {F : Frame} {cs : List Constant} {ks : List ℕ} {t : L} (S : Search F 
       (λ (e : (part, y) ≡ x). marked_in (row_of F x.0) (marks_of ms) v (subst (λ (m : Match). Memᴰ (var v) (row_of F m.0)) e k) (rw (marks_long ms) l))
       (λ h. λ z. marks_in ms part y v h k l ((marked_grows (row_of F x.0) (marks_of ms)).of v z)) (Memᴰ.cases_cons m)
 
-  marks_of : (ms : List Match) (v : ℕ) → at (marks_of ms) v ≢ unbound → (part : Part) × (y : List ℕ) × Mem (part, y) ms × Memᴰ (var v) (row_of F part)
-  marks_of [] v n = absurd (n (unbound_at v))
-  marks_of (x ∷ ms) v n = ⊎_elim (λ h. let r = marks_of ms v h in (r.0, r.1, Memᴰ.tail r.2, r.3))
+  marks_of_law : (ms : List Match) (v : ℕ) → at (marks_of ms) v ≢ unbound → (part : Part) × (y : List ℕ) × Mem (part, y) ms × Memᴰ (var v) (row_of F part)
+  marks_of_law [] v n = absurd (n (unbound_at v))
+  marks_of_law (x ∷ ms) v n = ⊎_elim (λ h. let r = marks_of_law ms v h in (r.0, r.1, Memᴰ.tail r.2, r.3))
       (λ k. (x.0, x.1, Memᴰ.head refl, k)) (marked_of (row_of F x.0) (marks_of ms) v n)
 
   -- ---- what fits is carried
@@ -149,7 +149,7 @@ module _ {F : Frame} {cs : List Constant} {ks : List ℕ} {t : L} (S : Search F 
       eight = kept_long β θ long ∙ f.eight;
       offered = λ p x m. f.offered p x (Memᴰ.tail m);
       no_less = λ p x m. row_same (λ (c : ℕ). c) (row_of F p) θ₀ θ (same p x m) ∙ f.no_less p x (Memᴰ.tail m);
-      no_more = λ v n. marks_of ms v (marked_there v n).0;
+      no_more = λ v n. marks_of_law ms v (marked_there v n).0;
       kinds = λ v n. let q = (marked_there v n).1 in ap (may F v) q ∙ f.kinds v (λ z. n (q ∙ z));
     }
 

@@ -24,7 +24,7 @@ use Rattle.model.proofs.RecordFacts.{arity_map}
 use Rattle.fact.specs.Places.{stamp_of, fact_of}
 use Rattle.rules.specs.Rows.{no_fact}
 use Rattle.rules.specs.Matching.{fits, follow}
-use Rattle.rules.specs.Plan.{bodyFact, Plan}
+use Rattle.rules.specs.Plan.{body_fact, Plan}
 use Rattle.rules.specs.Patterns.{Frame}
 use Rattle.rules.specs.Cond.{may, head_entry, body_row, source_of, search_by, grounded, cond_at, cond_first, unbound8}
 use Rattle.rules.specs.Cond as Cond
@@ -33,11 +33,11 @@ use Rattle.rules.proofs.MatchFacts.{Under, Ground, row_on, row_bound, Fitted, fi
 use Rattle.rules.proofs.ExtendFacts.{L, In, unbound_at, stands, fair_start, fair_on}
 use Rattle.rules.proofs.Following.{follow_of, follow_in}
 use Rattle.rules.proofs.StepFacts.{not_new, Marks, marks_row, Search, Passes, Met, hold_in}
-use Rattle.rules.proofs.CondFacts.{ground_on, plan_of, plan_in}
+use Rattle.rules.proofs.CondFacts.{ground_on, plan_of_law, plan_in_law}
 use Rattle.rules.proofs.RoundLaw.{Given, Held, derived, within}
 use Rattle.rules.proofs.Good.{good, key_below, below_ground}
 use Rattle.rules.proofs.UseFacts.{told}
-use Rattle.rules.proofs.Framed.{at_some, some_at, Framed, fact_at, body_there, body_is, head_is, tests_of, tests_in, search}
+use Rattle.rules.proofs.Framed.{at_some, some_at, Framed, fact_at, body_there, body_is, head_is, tests_of_law, tests_in_law, search}
 
 module _ {𝒜 : List Assertion} {F : Frame} {a : Assertion} (S : Framed 𝒜 F a) where
   abbrev W : World
@@ -72,9 +72,9 @@ module _ {𝒜 : List Assertion} {F : Frame} {a : Assertion} (S : Framed 𝒜 F 
       (head_of a d θ, e ∙ head_is S θ A.binds, (body_of a d θ, R.cond S.counts S.depth A.binds (subst T (sym A.passes) tt), A.body))
 
   -- a body of which each fact is of these rounds
-  body_by : (n : ℕ) (θ : List ℕ) → ((i : ℕ) → i < length a.body → Within (Rule W 𝒜) n (fact_at S θ i)) → (x : Said) → Memᴰ x (body_of a d θ)
+  body_by_law : (n : ℕ) (θ : List ℕ) → ((i : ℕ) → i < length a.body → Within (Rule W 𝒜) n (fact_at S θ i)) → (x : Said) → Memᴰ x (body_of a d θ)
       → Within (Rule W 𝒜) n x
-  body_by n θ h x m =
+  body_by_law n θ h x m =
       let f = Memᴰ.of_map (λ (f : Fact Expr). said a.issuer d (map_fact (bound θ) f)) a.body m in
       let i = at_some no_fact f.0 a.body f.1 in
       subst (Within (Rule W 𝒜) n) (ap (λ (f : Fact Expr). said a.issuer d (map_fact (bound θ) f)) (sym i.2) ∙ f.2) (h i.0 i.1)
@@ -109,7 +109,7 @@ module _ {𝒜 : List Assertion} {F : Frame} {a : Assertion} (S : Framed 𝒜 F 
     Sr = search S t ground
 
     -- a body fact that is met is of rounds 1 to n
-    met_old : (θ : List ℕ) (i : ℕ) → i < length a.body → Met Sr (bodyFact i) θ → Within (Rule W 𝒜) n (fact_at S θ i)
+    met_old : (θ : List ℕ) (i : ℕ) → i < length a.body → Met Sr (body_fact i) θ → Within (Rule W 𝒜) n (fact_at S θ i)
     unfolding source_of
     met_old θ i h m =
         let f : Fact Expr = get_or a.body i no_fact in
@@ -121,7 +121,7 @@ module _ {𝒜 : List Assertion} {F : Frame} {a : Assertion} (S : Framed 𝒜 F 
     Earlier θ = (i : ℕ) → i < F.skip → (q : List ℕ) → In q t → fact_of q ≡ key (fact_at S θ i) → stamp_of q ≢ F.last
 
     -- and then the other way round
-    old_met : {θ : List ℕ} → Applies n θ → Earlier θ → (i : ℕ) → i < bodies → Met Sr (bodyFact i) θ
+    old_met : {θ : List ℕ} → Applies n θ → Earlier θ → (i : ℕ) → i < bodies → Met Sr (body_fact i) θ
     unfolding source_of
     old_met {θ} A older i b =
         let h : i < length a.body = omega (arith, S.laid.bodies) in
@@ -160,18 +160,18 @@ module _ {𝒜 : List Assertion} {F : Frame} {a : Assertion} (S : Framed 𝒜 F 
             let g = ground_of (plan F.skip) (onward q) m in
             let τ = follow_of (first_match (fact_of q)) (search_by F t (plan F.skip)) c g.1 in
             let f = given_fits mq h τ.1 in
-            let w = plan_of Sr (S.plans F.skip (inr h)) (given_marks mq h f) (fair_on Sr.over f (fair_start Sr.over)) g.0 τ.2 in
+            let w = plan_of_law Sr (S.plans F.skip (inr h)) (given_marks mq h f) (fair_on Sr.over f (fair_start Sr.over)) g.0 τ.2 in
             let ρ : List ℕ = w.0 in
             let row = row_on given_row (fact_of q) (ground q mq) w.1.under f.is in
-            let skipped : Met Sr (bodyFact F.skip) ρ =
+            let skipped : Met Sr (body_fact F.skip) ρ =
             (q, record { among = mq; late = not_new F.skip F.last F.skip q (λ l. absurd (omega arith)); row = row }) in
-            let body = body_by n ρ (λ i l. met_old ρ i l (every i (omega (arith, S.laid.bodies)) (w.1.met i) skipped (ℕ_discrete F.skip i))) in
-            head_gives {n = n} (record { binds = w.1.binds; passes = tests_in S ρ w.1.pass; body = body }) w.1.is
+            let body = body_by_law n ρ (λ i l. met_old ρ i l (every i (omega (arith, S.laid.bodies)) (w.1.met i) skipped (ℕ_discrete F.skip i))) in
+            head_gives {n = n} (record { binds = w.1.binds; passes = tests_in_law S ρ w.1.pass; body = body }) w.1.is
           where
             -- the given one or another
-            every : {ρ : List ℕ} (i : ℕ) → i < bodies → (i < bodies → i ≢ F.skip → Met Sr (bodyFact i) ρ) → Met Sr (bodyFact F.skip) ρ → Dec (F.skip ≡ i)
-                → Met Sr (bodyFact i) ρ
-            every {ρ} i h met given (yes e) = subst (λ (j : ℕ). Met Sr (bodyFact j) ρ) e given
+            every : {ρ : List ℕ} (i : ℕ) → i < bodies → (i < bodies → i ≢ F.skip → Met Sr (body_fact i) ρ) → Met Sr (body_fact F.skip) ρ → Dec (F.skip ≡ i)
+                → Met Sr (body_fact i) ρ
+            every {ρ} i h met given (yes e) = subst (λ (j : ℕ). Met Sr (body_fact j) ρ) e given
             every i h met given (no e) = met h (λ z. e (sym z))
 
     pub cond_given : {θ : List ℕ} → F.skip < length a.body → Applies n θ → Earlier θ
@@ -187,9 +187,9 @@ module _ {𝒜 : List Assertion} {F : Frame} {a : Assertion} (S : Framed 𝒜 F 
         let f = given_fits w.1 b τ.1 in
         let fair = fair_on Sr.over f (fair_start Sr.over) in
         let valid = S.plans F.skip (inr b) in
-        let found = plan_in Sr valid (given_marks w.1 b f) fair A.binds (f.least θ start is) (old_met A older) (tests_of S θ A.passes) in
+        let found = plan_in_law Sr valid (given_marks w.1 b f) fair A.binds (f.least θ start is) (old_met A older) (tests_of_law S θ A.passes) in
         let there = follow_in (first_match (fact_of q)) (search_by F t (plan F.skip)) (head_entry F θ) τ.0 τ.1 found in
-        rw (lt-ltb F.skip bodies b, ground_in Sr valid (onward q) θ (tests_of S θ A.passes))
+        rw (lt-ltb F.skip bodies b, ground_in Sr valid (onward q) θ (tests_of_law S θ A.passes))
         (subst (λ (c : List ℕ). In c (onward q)) (head_is S θ A.binds) there)
 
   -- ---- an assertion without a body
@@ -210,9 +210,9 @@ module _ {𝒜 : List Assertion} {F : Frame} {a : Assertion} (S : Framed 𝒜 F 
       go true e m =
           let z : bodies ≡ 0 = eqb-true bodies 0 e in
           let g = ground_of (plan 0) (search_by F [] (plan 0) unbound8) m in
-          let w = plan_of S0 (S.plans 0 (inl refl)) (none_marks z) (fair_start S0.over) g.0 g.1 in
-          let body = body_by n w.0 (λ j h. absurd (omega (arith, S.laid.bodies))) in
-          head_gives {n = n} (record { binds = w.1.binds; passes = tests_in S w.0 w.1.pass; body = body }) w.1.is
+          let w = plan_of_law S0 (S.plans 0 (inl refl)) (none_marks z) (fair_start S0.over) g.0 g.1 in
+          let body = body_by_law n w.0 (λ j h. absurd (omega (arith, S.laid.bodies))) in
+          head_gives {n = n} (record { binds = w.1.binds; passes = tests_in_law S w.0 w.1.pass; body = body }) w.1.is
 
   pub first_given : (n : ℕ) {θ : List ℕ} → length a.body ≡ 0 → Applies n θ → In (F.round ∷ key (head_of a d θ)) (cond_first F)
   unfolding cond_first
@@ -220,6 +220,6 @@ module _ {𝒜 : List Assertion} {F : Frame} {a : Assertion} (S : Framed 𝒜 F 
       let e : bodies ≡ 0 = S.laid.bodies ∙ z in
       let start : Under unbound8 θ = record { of = λ v. inl (unbound_at v) } in
       let valid = S.plans 0 (inl refl) in
-      let found = plan_in S0 valid (none_marks e) (fair_start S0.over) A.binds start (λ i h. absurd (omega arith)) (tests_of S θ A.passes) in
-      rw (eq-eqb bodies 0 e, ground_in S0 valid (search_by F [] (plan 0) unbound8) θ (tests_of S θ A.passes))
+      let found = plan_in_law S0 valid (none_marks e) (fair_start S0.over) A.binds start (λ i h. absurd (omega arith)) (tests_of_law S θ A.passes) in
+      rw (eq-eqb bodies 0 e, ground_in S0 valid (search_by F [] (plan 0) unbound8) θ (tests_of_law S θ A.passes))
       (subst (λ (c : List ℕ). In c (search_by F [] (plan 0) unbound8)) (head_is S θ A.binds) found)

@@ -28,7 +28,7 @@ use Rattle.rules.proofs.ExtendFacts.{In}
 use Rattle.rules.proofs.RoundLaw.{Given}
 use Rattle.rules.proofs.Good.{Good, good}
 use Rattle.rules.proofs.UseFacts.{Here, now_good, same_places}
-use Rattle.rules.proofs.FamilyFacts.{ordered_of_law, ordered_self, ordered_in}
+use Rattle.rules.proofs.FamilyFacts.{ordered_of_law, ordered_self, ordered_in_law}
 
 -- ---- the innermost verb and its parameters
 
@@ -270,7 +270,7 @@ module _ {W : World} {𝒜 : List Assertion} {n round : ℕ} (E : Here W 𝒜 n 
     in_family : (position j : ℕ) (x : ℕ) → (x ≡ get_or ps j 0) ⊎ covering.Below H v position (get_or ps j 0) x → Memᴰ x (family position j)
     unfolding small
     in_family position j x (inl e) = Memᴰ.cast e (ordered_self H v position children_small (get_or ps j 0) (small j))
-    in_family position j x (inr u) = ordered_in H v position children_small (get_or ps j 0) (small j) x u
+    in_family position j x (inr u) = ordered_in_law H v position children_small (get_or ps j 0) (small j) x u
 
     -- what is covered is the fact itself, or is given
     pub cover_in : (h : Fact ℕ) → Covers H f h → Now (said a d h) ⊎ In (round ∷ key (said a d h)) (covers_of round (key (said a d f)) H)

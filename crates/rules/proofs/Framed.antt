@@ -109,13 +109,13 @@ module _ {𝒜 : List Assertion} {F : Frame} {a : Assertion} (S : Framed 𝒜 F 
   over = record { few = S.few; constants = S.kinds; eight = refl; kinds = λ v l. S.laid.kinds v l ∙ sym (at_variable (kinds_of W a) v l) }
 
   -- its constraints are the assertion's
-  pub tests_of : (θ : List ℕ) → hold θ ≡ true → (i : ℕ) → i < F.pattern.tests → passes W θ (F.pattern.test i) ≡ true
-  tests_of θ e i h =
+  pub tests_of_law : (θ : List ℕ) → hold θ ≡ true → (i : ℕ) → i < F.pattern.tests → passes W θ (F.pattern.test i) ≡ true
+  tests_of_law θ e i h =
       let l : i < length a.tests = omega (arith, S.laid.tests) in
       ap (passes W θ) (S.laid.test i l) ∙ T_true _ (all_of_law (passes W θ) (subst T (sym e) tt) (some_at no_test a.tests i l))
 
-  pub tests_in : (θ : List ℕ) → ((i : ℕ) → i < F.pattern.tests → passes W θ (F.pattern.test i) ≡ true) → hold θ ≡ true
-  tests_in θ h = T_true _ (all_in (passes W θ) a.tests (λ c m. one c (at_some no_test c a.tests m)))
+  pub tests_in_law : (θ : List ℕ) → ((i : ℕ) → i < F.pattern.tests → passes W θ (F.pattern.test i) ≡ true) → hold θ ≡ true
+  tests_in_law θ h = T_true _ (all_in (passes W θ) a.tests (λ c m. one c (at_some no_test c a.tests m)))
     where
       one : (c : Constraint) → (i : ℕ) × (i < length a.tests) × (c ≡ get_or a.tests i no_test) → T (passes W θ c)
       one c i =
@@ -137,8 +137,8 @@ module _ {𝒜 : List Assertion} {F : Frame} {a : Assertion} (S : Framed 𝒜 F 
   pub body_is : (θ : List ℕ) (i : ℕ) → i < length a.body → map (bound θ) (body_row F i) ≡ key (fact_at θ i)
   body_is θ i h = ap (map (bound θ)) (row_is i h) ∙ row_key θ a.issuer d (get_or a.body i no_fact)
 
-  head_bound : (θ : List ℕ) → map (bound θ) (con a.issuer ∷ con d ∷ F.pattern.head) ≡ key (head_of a d θ)
-  head_bound θ = ap (λ (r : List Expr). map (bound θ) (con a.issuer ∷ con d ∷ r)) S.laid.head ∙ row_key θ a.issuer d a.head
+  head_bound_law : (θ : List ℕ) → map (bound θ) (con a.issuer ∷ con d ∷ F.pattern.head) ≡ key (head_of a d θ)
+  head_bound_law θ = ap (λ (r : List Expr). map (bound θ) (con a.issuer ∷ con d ∷ r)) S.laid.head ∙ row_key θ a.issuer d a.head
 
   -- the entry of the head
   pub head_is : (θ : List ℕ) → Binding θ → head_entry F θ ≡ F.round ∷ key (head_of a d θ)
@@ -148,8 +148,8 @@ module _ {𝒜 : List Assertion} {F : Frame} {a : Assertion} (S : Framed 𝒜 F 
       let depth = depth_small W 𝒜 S.sources d S.depth in
       let fine : Good W (head_of a d θ) =
       record { arity = fit; shape = S.proper.heads.shape θ; small = (S.proper.heads.issuer, depth, S.proper.heads.small θ m) } in
-      let b : Below (map (bound θ) (con a.issuer ∷ con d ∷ F.pattern.head)) = subst Below (sym (head_bound θ)) (key_below W (head_of a d θ) fine) in
-      ap₂ (λ (i : ℕ) (l : List ℕ). F.round ∷ i ∷ d ∷ l) S.laid.issuer (fields θ F.pattern.head b.1.1) ∙ ap (◌∷◌ F.round) (head_bound θ)
+      let b : Below (map (bound θ) (con a.issuer ∷ con d ∷ F.pattern.head)) = subst Below (sym (head_bound_law θ)) (key_below W (head_of a d θ) fine) in
+      ap₂ (λ (i : ℕ) (l : List ℕ). F.round ∷ i ∷ d ∷ l) S.laid.issuer (fields θ F.pattern.head b.1.1) ∙ ap (◌∷◌ F.round) (head_bound_law θ)
 
   pub search : (t : L) → ((q : List ℕ) → In q t → Ground (fact_of q)) → Search F W.constants ks t
   search t ground = record { over = over; rows = rows; ground = ground }

@@ -14,7 +14,7 @@ use Rattle.model.specs.Syntax.{Expr, con, var, today, vars_test}
 use Rattle.model.specs.Values.{bound}
 use Rattle.constraints.specs.Told.{told_both}
 use Rattle.rules.specs.Matching.{at}
-use Rattle.rules.specs.Plan.{Part, bodyFact, variable, every, enough, once, finds, Step}
+use Rattle.rules.specs.Plan.{Part, body_fact, variable, every, enough, once, finds, Step}
 use Rattle.rules.specs.Patterns.{Pattern}
 use Rattle.rules.specs.Cond.{unbound8}
 use Rattle.rules.specs.Proper.{Has, HasAll}
@@ -43,7 +43,7 @@ module _ {p : Pattern} (S : Sound p) where
 
   -- a step has body facts that are left, variables that are not bound, and constraints that are not told
   abbrev pub Ahead : List ℕ → List ℕ → Part → Type 0
-  Ahead met β (bodyFact i) = is_left p met i ≡ true
+  Ahead met β (body_fact i) = is_left p met i ≡ true
   Ahead met β (variable v) = at β v ≡ unbound
 
   pub record Later (met β : List ℕ) (s : Step) : Type 0 where
@@ -59,7 +59,7 @@ module _ {p : Pattern} (S : Sound p) where
   }
     where
       go : (x : Part) → Ahead met' β' x → Ahead met β x
-      go (bodyFact i) e = h i e
+      go (body_fact i) e = h i e
       go (variable v) e = b.of v e
 
   -- ---- what nothing else uses
@@ -73,11 +73,11 @@ module _ {p : Pattern} (S : Sound p) where
       go true = record { of = λ v z. z }
       go false = marked_grows (sides (p.test n)) used
 
-  tests_in : (n : ℕ) (β used : List ℕ) → length used ≡ 8 → (i : ℕ) → i < n → told_both β (p.test i) ≡ false → (v : ℕ) → v < 8
+  tests_in_law : (n : ℕ) (β used : List ℕ) → length used ≡ 8 → (i : ℕ) → i < n → told_both β (p.test i) ≡ false → (v : ℕ) → v < 8
       → Memᴰ v (vars_test (p.test i)) → at (used_tests p n β used) v ≢ unbound
   unfolding used_tests
-  tests_in zero β used h i l e v v8 m = absurd (not-suc-le-zero l)
-  tests_in (suc n) β used h i l e v v8 m = go (ℕ_discrete i n) (told_both β (p.test n)) refl (λ u h k. tests_in n β u h i k e v v8 m)
+  tests_in_law zero β used h i l e v v8 m = absurd (not-suc-le-zero l)
+  tests_in_law (suc n) β used h i l e v v8 m = go (ℕ_discrete i n) (told_both β (p.test n)) refl (λ u h k. tests_in_law n β u h i k e v v8 m)
     where
       go : Dec (i ≡ n) → (b : Bool) → told_both β (p.test n) ≡ b → ((u : List ℕ) → length u ≡ 8 → i < n → at (used_tests p n β u) v ≢ unbound)
           → at (used_tests p n β (cond b used (marked used (sides (p.test n))))) v ≢ unbound
@@ -163,7 +163,7 @@ module _ {p : Pattern} (S : Sound p) where
         in_rows s k n = go s.part (ahead s k).part n
           where
             go : (x : Part) → Ahead met' β' x → Memᴰ (var v) (exprs_of p x) → ⊥
-            go (bodyFact j) a n = facts_in 4 met' heads heads8 j (let b = (left_there S met' j a).0 in omega (arith, S.few)) a v v8 n facts
+            go (body_fact j) a n = facts_in 4 met' heads heads8 j (let b = (left_there S met' j a).0 in omega (arith, S.few)) a v v8 n facts
             go (variable w) a n = now (ap (at β') (same (Memᴰ.eq_of_singleton n)) ∙ a)
               where
                 same : var v ≡ var w → v ≡ w
@@ -172,13 +172,13 @@ module _ {p : Pattern} (S : Sound p) where
         in_tests : (s : Step) → Memᴰ s ss → (j : ℕ) → Memᴰ j s.tests → Memᴰ v (vars_test (p.test j)) → ⊥
         in_tests s k j n o =
             let t = (ahead s k).tests j n in
-            tests_in p.tests β' (used_facts p 4 met' heads) (facts_long 4 met' heads ∙ heads8) j t.0 t.1 v v8 o free
+            tests_in_law p.tests β' (used_facts p 4 met' heads) (facts_long 4 met' heads ∙ heads8) j t.0 t.1 v v8 o free
 
-    pub suits : Suits p (mode_of p met β i) (bodyFact i) β ss
+    pub suits : Suits p (mode_of p met β i) (body_fact i) β ss
     unfolding mode_of
     suits = go (is_apart p met β i) refl (head_bound p β) refl
       where
-        go : (a : Bool) → is_apart p met β i ≡ a → (b : Bool) → head_bound p β ≡ b → Suits p (cond a once (cond b enough every)) (bodyFact i) β ss
+        go : (a : Bool) → is_apart p met β i ≡ a → (b : Bool) → head_bound p β ≡ b → Suits p (cond a once (cond b enough every)) (body_fact i) β ss
         go true e b f = unused e
         go false e false f = tt
         go false e true f = λ v m. let r = placed p.head v m in

@@ -16,7 +16,7 @@ use borrow.Author.Tests.{eqb-true, eqb-false, eq-eqb, lt-ltb, le-ltb}
 use Rattle.model.specs.Limits.{unbound}
 use Rattle.constraints.specs.Told.{told_both}
 use Rattle.rules.specs.Matching.{at}
-use Rattle.rules.specs.Plan.{Part, bodyFact, Mode, every, enough, once, look, finds, Step}
+use Rattle.rules.specs.Plan.{Part, body_fact, Mode, every, enough, once, look, finds, Step}
 use Rattle.rules.specs.Patterns.{Pattern}
 use Rattle.rules.specs.Cond.{unbound8}
 use Rattle.rules.specs.Valid.{marked, exprs_of, There, Newly, Suits, after, Right, Steps, Some, given, Valid}
@@ -35,7 +35,7 @@ module _ {p : Pattern} (S : Sound p) where
     steps : Steps p β ss
     tests : (i : ℕ) → i < p.tests → told_both β (p.test i) ≡ false → Some p (λ (s : Step). Memᴰ i s.tests) ss
     later : (s : Step) → Memᴰ s ss → Later S met β s
-    facts : (i : ℕ) → is_left p met i ≡ true → Some p (λ (s : Step). s.part ≡ bodyFact i) ss
+    facts : (i : ℕ) → is_left p met i ≡ true → Some p (λ (s : Step). s.part ≡ body_fact i) ss
 
   after_found : (m : Mode) (part : Part) (β : List ℕ) → finds m ≡ true → after p m part β ≡ marked β (exprs_of p part)
   after_found every part β e = refl
@@ -69,7 +69,7 @@ module _ {p : Pattern} (S : Sound p) where
     }
 
     add : {met met' : List ℕ} {ss : List Step} → Serves met' γ ss → Right p β s ss → finds s.mode ≡ true → s.tests ≡ new_tests p β γ
-        → Ahead S met β s.part → ((i : ℕ) → is_left p met i ≡ true → (is_left p met' i ≡ true) ⊎ (s.part ≡ bodyFact i))
+        → Ahead S met β s.part → ((i : ℕ) → is_left p met i ≡ true → (is_left p met' i ≡ true) ⊎ (s.part ≡ body_fact i))
         → ((i : ℕ) → is_left p met' i ≡ true → is_left p met i ≡ true)
         → Serves met β (s ∷ ss)
     add {met} {met'} {ss} rest right f e a split back = record {
@@ -205,8 +205,8 @@ module _ {p : Pattern} (S : Sound p) where
           (λ j e. other j e (ℕ_discrete j i)) (λ j e. (left_back S met i j (omega arith) e).0))
         where
           other : (j : ℕ) → is_left p met j ≡ true → Dec (j ≡ next_fact p met β)
-              → (is_left p (set met (next_fact p met β) 0) j ≡ true) ⊎ (bodyFact (next_fact p met β) ≡ bodyFact j)
-          other j e (yes q) = inr (ap bodyFact (sym q))
+              → (is_left p (set met (next_fact p met β) 0) j ≡ true) ⊎ (body_fact (next_fact p met β) ≡ body_fact j)
+          other j e (yes q) = inr (ap body_fact (sym q))
           other j e (no q) = inl (left_set S met (next_fact p met β) j q ∙ e)
 
   pub plan_valid : (skip : ℕ) → Valid p skip (plan_of p skip)

@@ -14,7 +14,7 @@ use Rattle.model.specs.Limits.{unbound}
 use Rattle.model.specs.Syntax.{Assertion, Constant}
 use Rattle.fact.specs.Places.{fact_of}
 use Rattle.rules.specs.Matching.{at, fits, follow}
-use Rattle.rules.specs.Plan.{Part, bodyFact, Step, Plan}
+use Rattle.rules.specs.Plan.{Part, body_fact, Step, Plan}
 use Rattle.rules.specs.Patterns.{Pattern, Frame}
 use Rattle.rules.specs.Cond.{may, body_row, row_of, hold, search, search_by, grounded, cond_at, head_entry, unbound8}
 use Rattle.rules.specs.Valid.{marked, Newly, Exactly, given, Valid}
@@ -27,7 +27,7 @@ use Rattle.rules.proofs.StepFacts.{Marks, Search, Passes, Met, places, hold_of, 
 use Rattle.rules.proofs.LeftFacts.{Sound}
 use Rattle.rules.proofs.CarriedFacts.{carried_fits, fits_carried}
 use Rattle.rules.proofs.VisitedFacts.{At, fair, fitted, marks_now, at_next, tested_of, tested_in, step_exact, visits_at, head_visits}
-use Rattle.rules.proofs.CondFacts.{ground_on, plan_in}
+use Rattle.rules.proofs.CondFacts.{ground_on, plan_in_law}
 use Rattle.rules.proofs.Framed as framed
 use Rattle.rules.proofs.Framed.{Framed}
 
@@ -78,22 +78,22 @@ module _ {F : Frame} {cs : List Constant} {ks : List ℕ} {t : L} (S : Search F 
   firsts = subst (λ (β : List ℕ). Exactly p (Newly p unbound8 β) plan.first) given_is valid.first
 
   abbrev Given : List ℕ → Type 0
-  Given q = Offered F t (bodyFact F.skip) q
+  Given q = Offered F t (body_fact F.skip) q
 
   abbrev first_match : List ℕ → List ℕ → Type 0
   first_match q τ = fits (may F) unbound8 (body_row F F.skip) (fact_of q) ≡ some τ
 
   abbrev Started : List ℕ → List ℕ → Type 0
-  Started q τ = Carried F t ((bodyFact F.skip, q) ∷ []) τ
+  Started q τ = Carried F t ((body_fact F.skip, q) ∷ []) τ
 
   starts_of : {q τ : List ℕ} → Given q → first_match q τ → Nothing → hold F plan.first τ ≡ true → Started q τ
   starts_of o e c h = further c (record { offered = o; fit = e; tested = tested_of S (at_none S c) o e plan.first firsts h })
 
-  at_start : {q τ : List ℕ} → Started q τ → At S (given p F.skip) ((bodyFact F.skip, q) ∷ []) τ
+  at_start : {q τ : List ℕ} → Started q τ → At S (given p F.skip) ((body_fact F.skip, q) ∷ []) τ
   at_start {q} {τ} c =
       let n = one_match c in
       let none = at_none S (before c) in
-      subst (λ (β : List ℕ). At S β ((bodyFact F.skip, q) ∷ []) τ) (sym given_is) (at_next S none n.offered n.fit n.tested)
+      subst (λ (β : List ℕ). At S β ((body_fact F.skip, q) ∷ []) τ) (sym given_is) (at_next S none n.offered n.fit n.tested)
     where
       before : Started q τ → Nothing
       before (further (begun h) n) = begun h
@@ -122,10 +122,10 @@ module _ {F : Frame} {cs : List Constant} {ks : List ℕ} {t : L} (S : Search F 
       go false g e m = absurd (Memᴰ.not-nil m)
 
   abbrev Matched : ℕ → List Match → Type 0
-  Matched i ms = (y : List ℕ) × Memᴰ (bodyFact i, y) ms
+  Matched i ms = (y : List ℕ) × Memᴰ (body_fact i, y) ms
 
   abbrev Ended : List ℕ → List ℕ → Type 0
-  Ended q r = (ms : List Match) × (θ : List ℕ) × Ends F t (bodyFact F.skip, q) ms θ r
+  Ended q r = (ms : List Match) × (θ : List ℕ) × Ends F t (body_fact F.skip, q) ms θ r
 
   heads_of : {q r : List ℕ} → Given q → In r (cond_at F t (fact_of q)) → Ended q r
   heads_of {q} {r} o m =
@@ -147,13 +147,13 @@ module _ {F : Frame} {cs : List Constant} {ks : List ℕ} {t : L} (S : Search F 
       )
     where
       -- by a step: no step is left
-      by : {ms : List Match} {i : ℕ} (s : Step) → s.part ≡ bodyFact i → Memᴰ s [] ⊎ ((y : List ℕ) × Memᴰ (s.part, y) ms) → Matched i ms
+      by : {ms : List Match} {i : ℕ} (s : Step) → s.part ≡ body_fact i → Memᴰ s [] ⊎ ((y : List ℕ) × Memᴰ (s.part, y) ms) → Matched i ms
       by s e (inl k) = absurd (Memᴰ.not-nil k)
       by {ms} s e (inr y) = (y.0, subst (λ (part : Part). Memᴰ (part, y.0) ms) e y.1)
 
       -- body fact i is the given one, or one that a step matches
-      fact : (ms : List Match) {i : ℕ} → Memᴰ (bodyFact F.skip, q) ms → (i ≢ F.skip → Matched i ms) → Dec (i ≡ F.skip) → Matched i ms
-      fact ms m h (yes e) = (q, subst (λ (j : ℕ). Memᴰ (bodyFact j, q) ms) (sym e) m)
+      fact : (ms : List Match) {i : ℕ} → Memᴰ (body_fact F.skip, q) ms → (i ≢ F.skip → Matched i ms) → Dec (i ≡ F.skip) → Matched i ms
+      fact ms m h (yes e) = (q, subst (λ (j : ℕ). Memᴰ (body_fact j, q) ms) (sym e) m)
       fact ms m h (no n) = h n
 
   -- ---- a whole binding that is carried
@@ -165,13 +165,13 @@ module _ {F : Frame} {cs : List Constant} {ks : List ℕ} {t : L} (S : Search F 
       let f : Fits F t ms θ = c.0 in
       let pass : (i : ℕ) → i < p.tests → Passes S θ i =
       λ i l. c.1 i l (told_in θ (p.test i) (λ v m. let k = sound.tests i l v m in E.whole v k.0 k.1)) in
-      let met : (i : ℕ) → i < p.bodies → Met S (bodyFact i) θ =
-      λ i l. let y = E.facts i l in let h = f.offered (bodyFact i) y.0 y.1 in
-      (y.0, record { among = h.among; late = h.late; row = f.no_less (bodyFact i) y.0 y.1 }) in
+      let met : (i : ℕ) → i < p.bodies → Met S (body_fact i) θ =
+      λ i l. let y = E.facts i l in let h = f.offered (body_fact i) y.0 y.1 in
+      (y.0, record { among = h.among; late = h.late; row = f.no_less (body_fact i) y.0 y.1 }) in
       let ground = hold_in S unbound8 plan.ground (λ i m. ground_on S valid m θ ∙ pass i (valid.ground.0 i m).0) in
       let start : Under unbound8 θ = record { of = λ v. inl (unbound_at v) } in
-      let row = f.no_less (bodyFact F.skip) q E.given in
-      let ground-places = places S (bodyFact F.skip) q o.among in
+      let row = f.no_less (body_fact F.skip) q E.given in
+      let ground-places = places S (body_fact F.skip) q o.among in
       let τ =
       fits_some (may F) (body_row F F.skip) (fact_of q) unbound8 θ (S.rows F.skip there) start row
       (λ v l k. f.kinds v (row_bound (body_row F F.skip) (fact_of q) θ ground-places row v k)) in
@@ -179,13 +179,13 @@ module _ {F : Frame} {cs : List Constant} {ks : List ℕ} {t : L} (S : Search F 
       let g = fitted S none o τ.1 in
       let marks = subst (λ (β : List ℕ). Marks β τ.0) (sym given_is) (marks_now S none o τ.1) in
       let binds = complete S.over θ (fair S f) E.whole in
-      let found = plan_in S valid marks (fair_on S.over g (fair_start S.over)) binds (g.least θ start row) met pass in
+      let found = plan_in_law S valid marks (fair_on S.over g (fair_start S.over)) binds (g.least θ start row) met pass in
       let first = fits (may F) unbound8 (body_row F F.skip) (fact_of q) in
       rw (lt-ltb F.skip p.bodies there, ground) (follow_in first (search_by F t plan) r τ.0 τ.1
       (subst (λ (c : List ℕ). In c (search_by F t plan τ.0)) (sym E.head) found))
 
-  pub carried_exactly : CarriedExactly F t
-  carried_exactly = record {
+  pub carried_exactly_law : CarriedExactly F t
+  carried_exactly_law = record {
     fit = λ ms θ. (carried_fits S, λ h. fits_carried S ms θ h.0 h.1);
     begins = (begins_of S valid, begins_in S valid);
     starts = λ o e c. (starts_of o e c, λ d. tested_in S (at_none S c) o e plan.first firsts (carried_fits S d).1);
@@ -198,4 +198,4 @@ module _ {F : Frame} {cs : List Constant} {ks : List ℕ} {t : L} (S : Search F 
 pub carried_exactly : {𝒜 : List Assertion} {F : Frame} {a : Assertion} → Framed 𝒜 F a → F.skip < F.pattern.bodies → (t : L)
     → ((q : List ℕ) → In q t → Ground (fact_of q)) → CarriedExactly F t
 carried_exactly {F = F} S there t ground =
-    carried_exactly (framed.search S t ground) (framed.sound S.proper S.laid) there (S.plans F.skip (inr there))
+    carried_exactly_law (framed.search S t ground) (framed.sound S.proper S.laid) there (S.plans F.skip (inr there))

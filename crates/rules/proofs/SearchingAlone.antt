@@ -9,7 +9,7 @@ use native.Mathlib.Omega.{arith}
 use lib.Dec.{eqb}
 use borrow.Author.Tests.{eq-eqb, le-ltb}
 use Rattle.model.specs.Syntax.{Assertion, Constant}
-use Rattle.rules.specs.Plan.{bodyFact, Plan}
+use Rattle.rules.specs.Plan.{body_fact, Plan}
 use Rattle.rules.specs.Patterns.{Pattern, Frame}
 use Rattle.rules.specs.Cond.{hold, search_by, grounded, cond_first, unbound8}
 use Rattle.rules.specs.Valid.{marked, given, Steps, Valid}
@@ -21,7 +21,7 @@ use Rattle.rules.proofs.StepFacts.{Marks, Search, Passes, Met, hold_in}
 use Rattle.rules.proofs.LeftFacts.{Sound}
 use Rattle.rules.proofs.CarriedFacts.{carried_fits}
 use Rattle.rules.proofs.VisitedFacts.{fair, step_exact, visits_at, head_visits}
-use Rattle.rules.proofs.CondFacts.{ground_on, plan_in}
+use Rattle.rules.proofs.CondFacts.{ground_on, plan_in_law}
 use Rattle.rules.proofs.Searching.{at_none, begins_of, begins_in, steps_of}
 use Rattle.rules.proofs.Framed as framed
 use Rattle.rules.proofs.Framed.{Framed}
@@ -62,15 +62,15 @@ module _ {F : Frame} {cs : List Constant} {ks : List ℕ} (S : Search F cs ks []
       let f : Fits F [] ms θ = c.0 in
       let pass : (i : ℕ) → i < p.tests → Passes S θ i =
       λ i l. c.1 i l (told_in θ (p.test i) (λ v m. let k = sound.tests i l v m in E.whole v k.0 k.1)) in
-      let met : (i : ℕ) → i < p.bodies → Met S (bodyFact i) θ = λ i l. absurd (omega (arith, l, none)) in
+      let met : (i : ℕ) → i < p.bodies → Met S (body_fact i) θ = λ i l. absurd (omega (arith, l, none)) in
       let ground = hold_in S unbound8 plan.ground (λ i m. ground_on S valid m θ ∙ pass i (valid.ground.0 i m).0) in
       let start : Under unbound8 θ = record { of = λ v. inl (unbound_at v) } in
       let marks : Marks (given p 0) unbound8 = subst (λ (β : List ℕ). Marks β unbound8) (sym given_none) (record { of = λ v z. z }) in
-      let found = plan_in S valid marks (fair_start S.over) (complete S.over θ (fair S f) E.whole) start met pass in
+      let found = plan_in_law S valid marks (fair_start S.over) (complete S.over θ (fair S f) E.whole) start met pass in
       rw (eq-eqb p.bodies 0 none, ground) (subst (λ (c : List ℕ). In c (search_by F [] plan unbound8)) (sym E.head) found)
 
-  pub carried_alone : CarriedAlone F []
-  carried_alone = record {
+  pub carried_alone_law : CarriedAlone F []
+  carried_alone_law = record {
     begins = (begins_of S valid, begins_in S valid);
     visited = λ c v. let came = visits_at S (at_none S c) steps v in (came.matches, came.now.carried);
     stepped = λ c v o. let came = visits_at S (at_none S c) steps v in step_exact S came.now came.steps.0 o;
@@ -80,4 +80,4 @@ module _ {F : Frame} {cs : List Constant} {ks : List ℕ} (S : Search F cs ks []
 -- so it is for each assertion of an accepted policy that has no body
 pub carried_alone : {𝒜 : List Assertion} {F : Frame} {a : Assertion} → Framed 𝒜 F a → F.pattern.bodies ≡ 0 → CarriedAlone F []
 carried_alone S none =
-    carried_alone (framed.search S [] (λ q m. absurd (Memᴰ.not-nil m))) (framed.sound S.proper S.laid) none (S.plans 0 (inl refl))
+    carried_alone_law (framed.search S [] (λ q m. absurd (Memᴰ.not-nil m))) (framed.sound S.proper S.laid) none (S.plans 0 (inl refl))

@@ -21,7 +21,7 @@ use Rattle.model.proofs.ListFacts.{all_of_law, all_in, only_of, only_in}
 use Rattle.fact.specs.Places.{stamp_of, fact_of}
 use Rattle.model.proofs.Tests.{T_true}
 use Rattle.rules.specs.Matching.{at, fits, follow}
-use Rattle.rules.specs.Plan.{Part, bodyFact, variable, Mode, every, enough, once, look, finds, Step}
+use Rattle.rules.specs.Plan.{Part, body_fact, variable, Mode, every, enough, once, look, finds, Step}
 use Rattle.rules.specs.Patterns.{Pattern, Frame}
 use Rattle.rules.specs.Cond.{upto, single, too_new, may, body_row, hold, row_of, places_of, is_late, carried, source_of}
 use Rattle.rules.specs.Valid.{marked, exprs_of, There, Testable, Newly, after}
@@ -61,8 +61,8 @@ pub marks_on : {β θ τ : List ℕ} → Marks β θ → Under θ τ → Marks �
 marks_on {β} {θ} {τ} b u = record { of = λ v z. b.of v (⊎_elim (λ y. y) (λ (y : at θ v ≡ at τ v). y ∙ z) (u.of v)) }
 
 -- a constraint whose last variable is bound newly is told
-pub newly_told : {p : Pattern} {β γ : List ℕ} {i : ℕ} → Newly p β γ i → Testable p γ i
-newly_told n = (n.there, n.now)
+pub newly_told_law : {p : Pattern} {β γ : List ℕ} {i : ℕ} → Newly p β γ i → Testable p γ i
+newly_told_law n = (n.there, n.now)
 
 -- ---- the search
 
@@ -98,24 +98,24 @@ module _ {F : Frame} {cs : List Constant} {ks : List ℕ} {t : L} (S : Search F 
 
   pub places : (part : Part) (y : List ℕ) → In y (source_of F t part) → Ground (places_of F part y)
   unfolding source_of
-  places (bodyFact i) y m = S.ground y m
+  places (body_fact i) y m = S.ground y m
   places (variable v) y m =
       let c = Memᴰ.of_map single (upto 0 (length F.kinds)) m in
       let u = upto_of (length F.kinds) 0 c.0 c.1 in
       subst Ground c.2 ((λ z. let h : c.0 < 0 + length F.kinds = u.1 in omega (arith, few)), tt)
 
   pub has : (part : Part) (θ : List ℕ) → There p part → length θ ≡ 8 → HasAll (length θ) (row_of F part)
-  has (bodyFact i) θ h l = subst (λ (n : ℕ). HasAll n (body_row F i)) (sym l) (S.rows i h)
+  has (body_fact i) θ h l = subst (λ (n : ℕ). HasAll n (body_row F i)) (sym l) (S.rows i h)
   has (variable v) θ h l = (rw l h.0, tt)
 
   -- the expressions with the issuer and the depth before them have the same variables
   pub in_row : (part : Part) (v : ℕ) → Memᴰ (var v) (exprs_of p part) → Memᴰ (var v) (row_of F part)
-  in_row (bodyFact i) v m = Memᴰ.tail (Memᴰ.tail m)
+  in_row (body_fact i) v m = Memᴰ.tail (Memᴰ.tail m)
   in_row (variable w) v m = m
 
   pub of_row : (part : Part) (v : ℕ) → Memᴰ (var v) (row_of F part) → Memᴰ (var v) (exprs_of p part)
   of_row (variable w) v m = m
-  of_row (bodyFact i) v m = skip (skip m)
+  of_row (body_fact i) v m = skip (skip m)
     where
       skip : {c : ℕ} {es : List Expr} → Memᴰ (var v) (con c ∷ es) → Memᴰ (var v) es
       skip m = ⊎_elim (λ e. absurd (subst (λ (e : Expr). elim e as (λ x. Type 0) [ con c ↦ ⊥ | var w ↦ Unit {0} | today ↦ ⊥ ]) e tt)) (λ k. k)
@@ -155,10 +155,10 @@ module _ {F : Frame} {cs : List Constant} {ks : List ℕ} {t : L} (S : Search F 
         tests = r.2;
       }
 
-  pub carried_by : (s : Step) (θ y : List ℕ) {τ : List ℕ} → is_late F s.part y ≡ false → fits (may F) θ (row_of F s.part) (places_of F s.part y) ≡ some τ
+  pub carried_by_law : (s : Step) (θ y : List ℕ) {τ : List ℕ} → is_late F s.part y ≡ false → fits (may F) θ (row_of F s.part) (places_of F s.part y) ≡ some τ
       → hold F s.tests τ ≡ true → In τ (carried F s θ y)
   unfolding carried
-  carried_by s θ y {τ} l e h = rw (l, e) (only_in (hold F s.tests τ) (subst T (sym h) tt) refl)
+  carried_by_law s θ y {τ} l e h = rw (l, e) (only_in (hold F s.tests τ) (subst T (sym h) tt) refl)
 
   -- what a part matches is bound then
   pub part_marks : (part : Part) {β θ τ y : List ℕ} → In y (source_of F t part) → Fitted (may F) (row_of F part) (places_of F part y) θ τ → Marks β θ

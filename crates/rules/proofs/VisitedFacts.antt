@@ -26,7 +26,7 @@ use Rattle.rules.proofs.MatchFacts.{Under, Fitted, fits_of}
 use Rattle.rules.proofs.ExtendFacts.{L, In, Fair, unbound_at}
 use Rattle.rules.proofs.TestFacts.{passes_same, told_bound, told_in}
 use Rattle.rules.proofs.Following.{onward}
-use Rattle.rules.proofs.StepFacts.{Marks, Search, Passes, places, has, in_row, of_row, carried_of, carried_by, part_marks, hold_of, hold_in}
+use Rattle.rules.proofs.StepFacts.{Marks, Search, Passes, places, has, in_row, of_row, carried_of, carried_by_law, part_marks, hold_of, hold_in}
 use Rattle.rules.proofs.MarkFacts.{marked_long, marked_grows, marked_in, told_grows}
 use Rattle.rules.proofs.ModeFacts.{small}
 use Rattle.rules.proofs.CarriedFacts.{carried_fits}
@@ -62,14 +62,14 @@ module _ (F : Frame) (t : L) (go : List ℕ → L) (θ : List ℕ) where
       by [] q m ih = let s = ih m in (x ∷ s.0, s.1, s.2, ap (◌∷◌ x) s.3, ap (λ (k : L). k ++ each s.0 go) q ∙ s.4, s.5)
       by (c ∷ k) q m ih = ([], l, x, refl, refl, subst (In r) (sym q) m)
 
-  pub goes_on : (m : Mode) (τs : L) {r : List ℕ} → In r (go_on m go θ τs) → (τ : List ℕ) × Goes F t go θ m τs τ × In r (go τ)
+  pub goes_on_law : (m : Mode) (τs : L) {r : List ℕ} → In r (go_on m go θ τs) → (τ : List ℕ) × Goes F t go θ m τs τ × In r (go τ)
   unfolding go_on
-  goes_on every τs i = let s = each_of go τs i in (s.0, all s.1, s.2)
-  goes_on enough τs i = let s = found τs i in (s.2, subst (λ (l : L). Goes F t go θ enough l s.2) s.3 (first_found s.0 s.1 s.4), s.5)
-  goes_on once [] i = absurd (Memᴰ.not-nil i)
-  goes_on once (τ ∷ τs) i = (τ, first, i)
-  goes_on look [] i = absurd (Memᴰ.not-nil i)
-  goes_on look (τ ∷ τs) i = (θ, looked, i)
+  goes_on_law every τs i = let s = each_of go τs i in (s.0, all s.1, s.2)
+  goes_on_law enough τs i = let s = found τs i in (s.2, subst (λ (l : L). Goes F t go θ enough l s.2) s.3 (first_found s.0 s.1 s.4), s.5)
+  goes_on_law once [] i = absurd (Memᴰ.not-nil i)
+  goes_on_law once (τ ∷ τs) i = (τ, first, i)
+  goes_on_law look [] i = absurd (Memᴰ.not-nil i)
+  goes_on_law look (τ ∷ τs) i = (θ, looked, i)
 
 module _ {F : Frame} {cs : List Constant} {ks : List ℕ} {t : L} (S : Search F cs ks t) where
   abbrev p : Pattern
@@ -144,7 +144,7 @@ module _ {F : Frame} {cs : List Constant} {ks : List ℕ} {t : L} (S : Search F 
     pub step_exact : {y σ : List ℕ} → Offered F t s.part y → In σ (carried F s θ y) ↔ Next F t θ s.part y σ
     step_exact {y} {σ} o = (
       λ m. let r = carried_of S s θ y m in record { offered = o; fit = r.1; tested = tested_of A o r.1 s.tests w.tests r.2 },
-      λ n. carried_by S s θ y o.late n.fit (tested_in A o n.fit s.tests w.tests n.tested),
+      λ n. carried_by_law S s θ y o.late n.fit (tested_in A o n.fit s.tests w.tests n.tested),
     )
 
     -- what is matched after it
@@ -226,6 +226,6 @@ module _ {F : Frame} {cs : List Constant} {ks : List ℕ} {t : L} (S : Search F 
   unfolding search
   head_visits [] {θ} m = (θ, here, Memᴰ.eq_of_singleton m)
   head_visits (s ∷ ss) {θ} m =
-      let g = goes_on F t (search F t ss) θ s.mode (each (source_of F t s.part) (carried F s θ)) m in
+      let g = goes_on_law F t (search F t ss) θ s.mode (each (source_of F t s.part) (carried F s θ)) m in
       let v = head_visits ss g.2 in
       (v.0, step g.1 v.1, v.2)

@@ -12,7 +12,7 @@ use Rattle.model.specs.Values.{bound}
 use Rattle.constraints.specs.Told.{told_both}
 use Rattle.fact.specs.Places.{fact_of}
 use Rattle.rules.specs.Matching.{at, fits}
-use Rattle.rules.specs.Plan.{Part, bodyFact, variable, Mode, every, enough, once, look, finds, Step, Plan}
+use Rattle.rules.specs.Plan.{Part, body_fact, variable, Mode, every, enough, once, look, finds, Step, Plan}
 use Rattle.rules.specs.Patterns.{Frame}
 use Rattle.rules.specs.Cond.{may, row_of, places_of, is_late, source_of, hold, carried, search, head_entry, cond_at, cond_first, unbound8}
 use Rattle.rules.specs.Valid.{There}
@@ -87,7 +87,7 @@ module _ (F : Frame) (t : List (List ℕ)) where
   pub record Ends (start : Match) (ms : List Match) (θ r : List ℕ) : Type 0 where
     pub carried : Carried ms θ
     pub given : Memᴰ start ms
-    pub facts : (i : ℕ) → i < F.pattern.bodies → (y : List ℕ) × Memᴰ (bodyFact i, y) ms
+    pub facts : (i : ℕ) → i < F.pattern.bodies → (y : List ℕ) × Memᴰ (body_fact i, y) ms
     pub whole : (v : ℕ) → v < 8 → F.pattern.kind v ≢ 0 → at θ v ≢ unbound
     pub head : r ≡ head_entry F θ
 
@@ -96,14 +96,14 @@ module _ (F : Frame) (t : List (List ℕ)) where
 
   -- q is the entry that body fact `skip` has already
   abbrev given : List ℕ → Match
-  given q = (bodyFact F.skip, q)
+  given q = (body_fact F.skip, q)
 
   pub record CarriedExactly : Type 0 where
     -- "a partial binding is carried on exactly if what is matched so far fits and every constraint whose variables are all bound holds"
     pub fit : (ms : List Match) (θ : List ℕ) → Carried ms θ ↔ (Fits ms θ × Tested θ)
     -- "one without variables is tried before the first body fact": what is tested before anything is matched, and with the given fact
     pub begins : (hold F along.ground unbound8 ≡ true) ↔ Carried [] unbound8
-    pub starts : {q τ : List ℕ} → Offered (bodyFact F.skip) q → fits (may F) unbound8 (row_of F (bodyFact F.skip)) (fact_of q) ≡ some τ
+    pub starts : {q τ : List ℕ} → Offered (body_fact F.skip) q → fits (may F) unbound8 (row_of F (body_fact F.skip)) (fact_of q) ≡ some τ
         → Carried [] unbound8 → (hold F along.first τ ≡ true) ↔ Carried (given q ∷ []) τ
     -- wherever the search comes to, its binding is carried, and a step carries it on by y to just the binding to which it goes on so
     pub visited : {q τ θ : List ℕ} {ss : List Step} → Carried (given q ∷ []) τ → Visits along.steps τ ss θ
@@ -111,7 +111,7 @@ module _ (F : Frame) (t : List (List ℕ)) where
     pub stepped : {q τ θ : List ℕ} {s : Step} {ss : List Step} → Carried (given q ∷ []) τ → Visits along.steps τ (s ∷ ss) θ
         → {y σ : List ℕ} → Offered s.part y → Memᴰ σ (carried F s θ y) ↔ Next θ s.part y σ
     -- the heads that are listed are those of the carried bindings that are whole
-    pub heads : {q r : List ℕ} → Offered (bodyFact F.skip) q
+    pub heads : {q r : List ℕ} → Offered (body_fact F.skip) q
         → Memᴰ r (cond_at F t (fact_of q)) ↔ ((ms : List Match) × (θ : List ℕ) × Ends (given q) ms θ r)
 
   -- ---- an assertion without a body: the search begins with nothing matched

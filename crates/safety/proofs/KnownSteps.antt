@@ -23,26 +23,26 @@ use Rattle.safety.proofs.SafetySteps.{known_yes, known_no}
 
 module _ (sg s : List ℕ) where
   -- a says node, flat and nested
-  flat_says : (e : Expr) (k p : ℕ) (m : List ℕ) → k ≡ 0
+  flat_says_law : (e : Expr) (k p : ℕ) (m : List ℕ) → k ≡ 0
       → safe_with (marked (vars_in (levels_by sg k s p)) (marked (vars_of e) m)) ≡ known_says e (levels_by sg k s p) m
   unfolding levels_by known_says
-  flat_says e k p m h = rw h
+  flat_says_law e k p m h = rw h
 
-  nested_says : (e : Expr) (k p : ℕ) (m : List ℕ) → (k ≡ 0 → ⊥)
+  nested_says_law : (e : Expr) (k p : ℕ) (m : List ℕ) → (k ≡ 0 → ⊥)
       → needed (marked (vars_in (levels_by sg k s p)) none) m (marked (vars_of e) m) ≡ known_says e (levels_by sg k s p) m
   unfolding levels_by known_says
-  nested_says e zero p m h = absurd (h refl)
-  nested_says e (suc k) p m h = refl
+  nested_says_law e zero p m h = absurd (h refl)
+  nested_says_law e (suc k) p m h = refl
 
   pub says_flat : (e : Expr) (p : ℕ) (m : List ℕ) (z : Known) → byte_at s p ≡ 0 → z ≡ safe_with (marked (vars_in (fact_by sg s p)) (marked (vars_of e) m))
       → z ≡ known_says e (fact_by sg s p) m
   unfolding fact_by
-  says_flat e p m z h g = g ∙ flat_says e (byte_at s p) (p + 1) m h
+  says_flat e p m z h g = g ∙ flat_says_law e (byte_at s p) (p + 1) m h
 
   pub says_nested : (e : Expr) (p : ℕ) (m : List ℕ) (z : Known) → (byte_at s p ≡ 0 → ⊥)
       → z ≡ needed (marked (vars_in (fact_by sg s p)) none) m (marked (vars_of e) m) → z ≡ known_says e (fact_by sg s p) m
   unfolding fact_by
-  says_nested e p m z h g = g ∙ nested_says e (byte_at s p) (p + 1) m h
+  says_nested e p m z h g = g ∙ nested_says_law e (byte_at s p) (p + 1) m h
 
   abbrev nodes_in : ℕ → ℕ → ℕ → Nodes
   nodes_in d n at = nodes_by (tree_in sg s d) (end_in sg s d) n at
@@ -57,21 +57,21 @@ module _ (sg s : List ℕ) where
     known_past l = rw (tree_past sg s d at l)
 
     module _ (y : Shape) (z : Known) (n : d ≡ 0 → ⊥) (l : at < length s) (e : y ≡ shape_at s at) where
-      pub known_says : y ≡ Says → z ≡ known_says (expr_at s (at + 1)) (fact_by sg s (at + 3)) m → z ≡ known_in (tree_in sg s d at) m
+      pub known_says_law : y ≡ Says → z ≡ known_says (expr_at s (at + 1)) (fact_by sg s (at + 3)) m → z ≡ known_in (tree_in sg s d at) m
       unfolding known_in
-      known_says g h = rw (tree_says sg s d at y n l e g) h
+      known_says_law g h = rw (tree_says sg s d at y n l e g) h
 
       pub known_test : y ≡ Test → z ≡ needed (marked (vars_test (constraint_at s (at + 1))) none) m m → z ≡ known_in (tree_in sg s d at) m
       unfolding known_in
       known_test g h = rw (tree_test sg s d at y n l e g) h
 
-      pub known_all : y ≡ All → z ≡ known_all_in (nodes_in (d - 1) (byte_at s (at + 1)) (at + 2)) m → z ≡ known_in (tree_in sg s d at) m
+      pub known_all_law : y ≡ All → z ≡ known_all_in (nodes_in (d - 1) (byte_at s (at + 1)) (at + 2)) m → z ≡ known_in (tree_in sg s d at) m
       unfolding known_in
-      known_all g h = rw (tree_all sg s d at y n l e g) h
+      known_all_law g h = rw (tree_all sg s d at y n l e g) h
 
-      pub known_any : y ≡ Any → z ≡ known_any_in (nodes_in (d - 1) (byte_at s (at + 1)) (at + 2)) m → z ≡ known_in (tree_in sg s d at) m
+      pub known_any_law : y ≡ Any → z ≡ known_any_in (nodes_in (d - 1) (byte_at s (at + 1)) (at + 2)) m → z ≡ known_in (tree_in sg s d at) m
       unfolding known_in
-      known_any g h = rw (tree_any sg s d at y n l e g) h
+      known_any_law g h = rw (tree_any sg s d at y n l e g) h
 
       pub known_not : (a q : Known) → y ≡ Not → a ≡ needed (marked (free (tree_in sg s (d - 1) (at + 1))) none) m m → a.safe ≡ true
           → q ≡ known_in (tree_in sg s (d - 1) (at + 1)) m

@@ -29,9 +29,9 @@ use Rattle.safety.specs.declared.Judged.{Judged}
 
 -- ---- marks
 
-pub set_at : (xs m : List ℕ) (v : ℕ) → v < length m → get_or (marked xs m) v 0 ≡ cond (member v xs) 1 (get_or m v 0)
+pub set_at_law : (xs m : List ℕ) (v : ℕ) → v < length m → get_or (marked xs m) v 0 ≡ cond (member v xs) 1 (get_or m v 0)
 unfolding choose
-set_at xs m v h = marked_at xs m v h ∙ either (member v xs) 1 (get_or m v 0)
+set_at_law xs m v h = marked_at xs m v h ∙ either (member v xs) 1 (get_or m v 0)
   where
     either : (b : Bool) (x y : ℕ) → choose b x y ≡ cond b x y
     either true x y = refl
@@ -41,7 +41,7 @@ none_at : (v : ℕ) → v < 8 → get_or none v 0 ≡ 0
 none_at v h = at_variable (λ _. 0) v h
 
 pub mark_at : (xs : List ℕ) (v : ℕ) → v < 8 → get_or (marked xs none) v 0 ≡ cond (member v xs) 1 0
-mark_at xs v h = set_at xs none v h ∙ ap (cond (member v xs) 1) (none_at v h)
+mark_at xs v h = set_at_law xs none v h ∙ ap (cond (member v xs) 1) (none_at v h)
 
 zero_test : (b : Bool) → eqb (cond b 1 0) 0 ≡ not b
 zero_test true = refl

@@ -134,8 +134,8 @@ module _ (sg s : List ℕ) where
       unfolding taken
       binders_test g h = rw (tree_test sg s d at y n l e g) h
 
-      pub binders_all : y ≡ All → z ≡ taken (binders_all (nodes_in (d - 1) (byte_at s (at + 1)) (at + 2))) m → z ≡ taken (binders (tree_in sg s d at)) m
-      binders_all g h = rw (tree_all sg s d at y n l e g) h
+      pub binders_all_law : y ≡ All → z ≡ taken (binders_all (nodes_in (d - 1) (byte_at s (at + 1)) (at + 2))) m → z ≡ taken (binders (tree_in sg s d at)) m
+      binders_all_law g h = rw (tree_all sg s d at y n l e g) h
 
       pub binders_any : y ≡ Any → z ≡ taken (binders_all (nodes_in (d - 1) (byte_at s (at + 1)) (at + 2))) m → z ≡ taken (binders (tree_in sg s d at)) m
       binders_any g h = rw (tree_any sg s d at y n l e g) h

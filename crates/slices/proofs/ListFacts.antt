@@ -50,12 +50,12 @@ next_within s k p q h l =
     omega arith
 
 -- an item of one length byte ends where the code finds it to end
-pub item_end : (s : List ℕ) (p r : ℕ) → r ≡ byte_at s p → p + 1 + r ≡ item_end s p
+pub item_end_law : (s : List ℕ) (p r : ℕ) → r ≡ byte_at s p → p + 1 + r ≡ item_end s p
 unfolding item_end
-item_end s p r e = rw e
+item_end_law s p r e = rw e
 
 pub ends_step : (s : List ℕ) (k p r q : ℕ) → (k ≡ 0 → ⊥) → r ≡ byte_at s p → ends_by (item_end s) k p ≤ q → ends_by (item_end s) (k - 1) (p + 1 + r) ≤ q
-ends_step s k p r q h e l = rw (item_end s p r e, ends_more (item_end s) k p h) l
+ends_step s k p r q h e l = rw (item_end_law s p r e, ends_more (item_end s) k p h) l
 
 -- ---- one item more
 
@@ -267,8 +267,8 @@ module _ {A : Type 0} (of : ℕ → A) (next : ℕ → ℕ) where
   contents_each P (suc k) p h x m =
       ⊎_elim (λ e. subst P (sym e) (h 0 (omega arith))) (λ n. contents_each P k (next p) (λ j l. h (suc j) (omega arith)) x n) (Memᴰ.cases_cons m)
 
-pub starts_at : (next : ℕ → ℕ) (k p j : ℕ) → j < k → get_or (starts_at next k p) j 0 ≡ ends_by next j p
+pub starts_at_law : (next : ℕ → ℕ) (k p j : ℕ) → j < k → get_or (starts_at next k p) j 0 ≡ ends_by next j p
 unfolding starts_at ends_by
-starts_at next zero p j l = absurd (omega arith)
-starts_at next (suc k) p zero l = refl
-starts_at next (suc k) p (suc j) l = starts_at next k (next p) j (omega arith)
+starts_at_law next zero p j l = absurd (omega arith)
+starts_at_law next (suc k) p zero l = refl
+starts_at_law next (suc k) p (suc j) l = starts_at_law next k (next p) j (omega arith)

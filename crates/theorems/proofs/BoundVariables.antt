@@ -22,25 +22,25 @@ use Rattle.model.proofs.ListFacts.{and_of, and_in}
 use Rattle.model.specs.Inputs.{ReadAs}
 use Rattle.model.proofs.ReadFacts.{Fine, policy_fine}
 use Rattle.theorems.proofs.ProperRequests.{policy_kinded}
-use Rattle.model.proofs.KindFacts.{fitting↔, one_kind}
-use Rattle.model.proofs.BindingFacts.{of_kind_of, of_kind_in, bindings_of, bindings_in, at_variable}
+use Rattle.model.proofs.KindFacts.{fitting↔, one_kind_law}
+use Rattle.model.proofs.BindingFacts.{of_kind_of, of_kind_in, bindings_of_law, bindings_in_law, at_variable}
 
 -- ---- one variable
 
 module _ (cs : List Constant) where
-  cell_of : (b : Bool) (k c κ : ℕ) → (T b → ¬ (k ≡ 0)) → (T b → κ ≡ k) → Memᴰ c (choices cs (cond b k 0)) → (T b → kind_at cs c ≡ κ)
+  cell_of_law : (b : Bool) (k c κ : ℕ) → (T b → ¬ (k ≡ 0)) → (T b → κ ≡ k) → Memᴰ c (choices cs (cond b k 0)) → (T b → kind_at cs c ≡ κ)
       × (T (not b) → c ≡ unbound)
-  cell_of true zero c κ n e m = absurd (n tt refl)
-  cell_of true (suc k) c κ n e m =
+  cell_of_law true zero c κ n e m = absurd (n tt refl)
+  cell_of_law true (suc k) c κ n e m =
       let r = of_kind_of (suc k) 0 c cs m in
       let i : c ≡ r.0 = let z = r.1 in omega arith in
       (λ t. ap (λ (j : ℕ). kind_at cs j) i ∙ sym r.3 ∙ sym (e tt), λ t. absurd t)
-  cell_of false k c κ n e m = (λ t. absurd t, λ t. Memᴰ.eq_of_singleton m)
+  cell_of_law false k c κ n e m = (λ t. absurd t, λ t. Memᴰ.eq_of_singleton m)
 
-  cell_in : (b : Bool) (k c κ : ℕ) → (T b → ¬ (k ≡ 0)) → (T b → κ ≡ k) → (T b → kind_at cs c ≡ κ) → (T (not b) → c ≡ unbound)
+  cell_in_law : (b : Bool) (k c κ : ℕ) → (T b → ¬ (k ≡ 0)) → (T b → κ ≡ k) → (T b → kind_at cs c ≡ κ) → (T (not b) → c ≡ unbound)
       → Memᴰ c (choices cs (cond b k 0))
-  cell_in true zero c κ n e f g = absurd (n tt refl)
-  cell_in true (suc k) c κ n e f g = go (dec_lt c (length cs))
+  cell_in_law true zero c κ n e f g = absurd (n tt refl)
+  cell_in_law true (suc k) c κ n e f g = go (dec_lt c (length cs))
     where
       h : kind_at cs c ≡ suc k
       h = f tt ∙ e tt
@@ -52,7 +52,7 @@ module _ (cs : List Constant) where
           let z : 0 ≡ suc k = sym (ap (λ (x : Constant). x.kind) w) ∙ h in
           omega arith
           )
-  cell_in false k c κ n e f g = subst (λ (j : ℕ). Memᴰ j (unbound ∷ [])) (sym (g tt)) (Memᴰ.head refl)
+  cell_in_law false k c κ n e f g = subst (λ (j : ℕ). Memᴰ j (unbound ∷ [])) (sym (g tt)) (Memᴰ.head refl)
 
   -- ---- all eight; S: variables that have a place
 
@@ -61,27 +61,27 @@ module _ (cs : List Constant) where
     kind_s v = cond (member v S) (kind_of D.places v) 0
 
     settled : (κ : List ℕ) → T (meets cs D κ) → (v : ℕ) → T (member v S) → get_or κ v 0 ≡ kind_of D.places v
-    settled κ m v t = one_kind cs κ D.places (and_of (all (in_place cs κ) D.places) (all (comparable cs κ) D.tests) m).0 v (has v t)
+    settled κ m v t = one_kind_law cs κ D.places (and_of (all (in_place cs κ) D.places) (all (comparable cs κ) D.tests) m).0 v (has v t)
 
     pub binds_of : T (fitting cs D) → (θ : List ℕ) → Memᴰ θ (bindings cs (map kind_s variables)) → (κ : List ℕ) × Fits cs D κ × Binds cs κ S θ
     binds_of f θ m =
         let w = (fitting↔ cs D).0 f in
-        let b = bindings_of cs (map kind_s variables) θ m in (
+        let b = bindings_of_law cs (map kind_s variables) θ m in (
           w.0,
           (w.1, w.2, w.3),
           (
             b.0,
-            λ v l. cell_of (member v S) (kind_of D.places v) (get_or θ v unbound) (get_or w.0 v 0) (has v) (settled w.0 w.3 v)
+            λ v l. cell_of_law (member v S) (kind_of D.places v) (get_or θ v unbound) (get_or w.0 v 0) (has v) (settled w.0 w.3 v)
                 (subst (λ (k : ℕ). Memᴰ (get_or θ v unbound) (choices cs k)) (at_variable kind_s v l) (b.1 v l)),
           ),
         )
 
     pub binds_in : (θ κ : List ℕ) → Fits cs D κ → Binds cs κ S θ → Memᴰ θ (bindings cs (map kind_s variables))
-    binds_in θ κ f b = bindings_in cs (map kind_s variables) θ (
+    binds_in θ κ f b = bindings_in_law cs (map kind_s variables) θ (
       b.0,
       λ v l.
           subst (λ (k : ℕ). Memᴰ (get_or θ v unbound) (choices cs k)) (sym (at_variable kind_s v l))
-          (cell_in (member v S) (kind_of D.places v) (get_or θ v unbound) (get_or κ v 0) (has v) (settled κ f.2 v) (b.1 v l).0 (b.1 v l).1),
+          (cell_in_law (member v S) (kind_of D.places v) (get_or θ v unbound) (get_or κ v 0) (has v) (settled κ f.2 v) (b.1 v l).0 (b.1 v l).1),
     )
 
 -- ---- which variables have a place, and so a kind

@@ -28,7 +28,7 @@ use Rattle.model.specs.Bytes.{got}
 use Rattle.model.specs.Nodes.{safely, request_from, computed_request, read_request}
 use Rattle.model.proofs.RequestReader.{request_is}
 use Rattle.theorems.proofs.ProperRequests.{policy_kinded, node_fits}
-use Rattle.model.proofs.KindFacts.{one_kind}
+use Rattle.model.proofs.KindFacts.{one_kind_law}
 use Rattle.model.proofs.ByteFacts.{below_length}
 use Rattle.theorems.proofs.BoundVariables.{vars_at, kinded_at, a_place, all_join, places_kinded, binds_of, binds_in}
 
@@ -72,9 +72,9 @@ params_at [] (e ∷ es) h = absurd (omega arith)
 params_at (k ∷ ks) (e ∷ es) h = ap (λ (l : List ℕ). vars_of e ++ l) (params_at ks es (omega arith))
 
 module _ (vs : List Verb) where
-  fact_at : (f : Fact Expr) → Arity vs f → vars_at (places vs f) ≡ vars_in f
-  fact_at (flat s v ps) a = ap (λ (l : List ℕ). vars_of s ++ l) (params_at (param_kinds vs v) ps a)
-  fact_at (can_say s d f) a = ap (λ (l : List ℕ). vars_of s ++ l) (fact_at f a)
+  fact_at_law : (f : Fact Expr) → Arity vs f → vars_at (places vs f) ≡ vars_in f
+  fact_at_law (flat s v ps) a = ap (λ (l : List ℕ). vars_of s ++ l) (params_at (param_kinds vs v) ps a)
+  fact_at_law (can_say s d f) a = ap (λ (l : List ℕ). vars_of s ++ l) (fact_at_law f a)
 
   abbrev Into : List ℕ → List ℕ → List (ℕ × Expr) → Type 0
   Into I O ps = (v : ℕ) → T (member v O) → T (member v I) ⊎ T (member v (vars_at ps))
@@ -83,7 +83,7 @@ module _ (vs : List Verb) where
     into : (n : Node) → Sound vs n → (I O : List ℕ) → known n I ≡ some O → Into I O (demands_in n vs).places
     into (says e (flat s v ps)) a I O h u t =
         let w : vars_of e ++ vars_in (flat s v ps) ++ I ≡ O = cc in
-        ⊎_elim (λ k. inr (subst (λ (l : List ℕ). T (member u (vars_of e ++ l))) (sym (fact_at (flat s v ps) a)) k)) (λ k. inl k)
+        ⊎_elim (λ k. inr (subst (λ (l : List ℕ). T (member u (vars_of e ++ l))) (sym (fact_at_law (flat s v ps) a)) k)) (λ k. inl k)
         (member_append u (vars_of e ++ vars_in (flat s v ps)) I (subst (λ (l : List ℕ). T (member u l)) (sym w) t))
     into (says e (can_say s d f)) a I O h u t =
         let b = provided_of (among (vars_in (can_say s d f)) I) (some (vars_of e ++ I)) O h in
@@ -200,6 +200,6 @@ module _ (policy request : List ℕ) (P : Policy) (q : Request) (h : ReadAs poli
       let w = (answering θ).0 m in
       let κ = w.0 in
       let f = w.1 in
-      let e = one_kind cs κ D.places (and_of (all (in_place cs κ) D.places) (all (comparable cs κ) D.tests) f.2).0 v (free_placed v t) in
+      let e = one_kind_law cs κ D.places (and_of (all (in_place cs κ) D.places) (all (comparable cs κ) D.tests) f.2).0 v (free_placed v t) in
       let l = below_length κ 8 f.0 v (λ z. free_placed v t (sym e ∙ z)) in
       (subst (λ (k : ℕ). Memᴰ k kinds) e (f.1 v l), (w.2.1 v l).0 t ∙ e)

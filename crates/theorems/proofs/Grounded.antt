@@ -21,7 +21,7 @@ use Rattle.model.specs.Forms.{is_kind}
 use Rattle.model.specs.Inputs.{ReadAs, RankedAs, DerivableIn, GroundFact, GroundSaid}
 use Rattle.model.proofs.ListFacts.{and_of, all_of_law, each_in, eqb_in, or_left, member_of, member_in}
 use Rattle.model.proofs.ReadFacts.{Fine, policy_fine}
-use Rattle.model.proofs.WithdrawalFacts.{counted_in}
+use Rattle.model.proofs.WithdrawalFacts.{counted_in_law}
 use Rattle.theorems.proofs.ProperRequests.{policy_kinded}
 use Rattle.theorems.proofs.BoundVariables.{kinded_at, facts_kinded, instances}
 use Rattle.model.proofs.ByteFacts.{below_length}
@@ -96,7 +96,7 @@ module _ (policy hierarchy : List ℕ) (R : Read) (r : ReadAs policy R.policy) (
 
   rule_ground : {ps : List Said} {x : Said} → Rule W (counted_in R) ps x → ((y : Said) → Memᴰ y ps → GroundSaid W y) → GroundSaid W x
   rule_ground (cond {a} {d} {θ} m n o t) h =
-      let i = counted_in R a m in
+      let i = counted_in_law R a m in
       let w = (instances policy P r R.request.today a i θ).0 o in
       let e = (and_of (eqb (kind_at cs a.issuer) principal) (fitting cs (demands_of vs a)) (fine a i).fit).0 in
       (eqb→eq (kind_at cs a.issuer) principal e, n, head_ground a i θ w.0 w.1 w.2)

@@ -15,7 +15,7 @@ use Rattle.theorems.specs.Theorems.{Positive, Positives}
 use Rattle.model.proofs.ListFacts.{member_of, member_in, keep_of, keep_in}
 use Rattle.model.proofs.ClosureFacts.{derives_more}
 use Rattle.model.proofs.StepFacts.{rule_mono}
-use Rattle.model.proofs.ReachFacts.{reach_of, reach_in}
+use Rattle.model.proofs.ReachFacts.{reach_of_law, reach_in}
 use Rattle.theorems.proofs.Outside.{adds_in, joins_more}
 use Rattle.model.proofs.WorldFacts.{passes_world}
 
@@ -44,7 +44,7 @@ module _ (W : World) (asked : List ℕ) {Q : Assertion → Type 0} {𝒜 ℬ : L
   counting_grows {a} m =
       let p = a.issuer in
       let k = keep_of (issued_in (reach W 𝒜 asked)) 𝒜 m in
-      let r = derives_more (joins_more W asked s) (reach_of W 𝒜 asked p (member_of p (reach W 𝒜 asked) k.1)) in
+      let r = derives_more (joins_more W asked s) (reach_of_law W 𝒜 asked p (member_of p (reach W 𝒜 asked) k.1)) in
       keep_in (issued_in (reach W ℬ asked)) (adds_in s k.0) (member_in (reach_in W ℬ asked p r))
 
   pub rule_grows : (ps : List Said) (x : Said) → Rule W (counting W 𝒜 asked) ps x → Rule W (counting W ℬ asked) ps x

@@ -13,7 +13,7 @@ use Rattle.model.specs.Reached.{issued_in, reach, counting}
 use Rattle.model.specs.Inputs.{Adds, done, keeps, adds}
 use Rattle.model.proofs.ListFacts.{member_of, member_in, keep_same}
 use Rattle.model.proofs.ClosureFacts.{derives_more}
-use Rattle.model.proofs.ReachFacts.{reach_of, reach_in}
+use Rattle.model.proofs.ReachFacts.{reach_of_law, reach_in}
 use Rattle.model.proofs.Tests.{T_iff}
 
 module _ {Q : Assertion → Type 0} where
@@ -59,14 +59,14 @@ module _ (W : World) (asked : List ℕ) (𝒜 ℬ : List Assertion) where
         p = a.issuer
 
         back : Memᴰ p (reach W ℬ asked) → Memᴰ p (reach W 𝒜 asked)
-        back m = reach_in W 𝒜 asked p ((reach_same p).0 (reach_of W ℬ asked p m))
+        back m = reach_in W 𝒜 asked p ((reach_same p).0 (reach_of_law W ℬ asked p m))
 
         forth : Memᴰ p (reach W 𝒜 asked) → Memᴰ p (reach W ℬ asked)
-        forth m = reach_in W ℬ asked p ((reach_same p).1 (reach_of W 𝒜 asked p m))
+        forth m = reach_in W ℬ asked p ((reach_same p).1 (reach_of_law W 𝒜 asked p m))
 
   issued_not : (a : Assertion) → Outside a → issued_in (reach W 𝒜 asked) a ≡ false
   issued_not a o =
-      T_iff (issued_in (reach W 𝒜 asked) a) false (λ t. o (reach_of W 𝒜 asked a.issuer (member_of a.issuer (reach W 𝒜 asked) t))) (λ t. absurd t)
+      T_iff (issued_in (reach W 𝒜 asked) a) false (λ t. o (reach_of_law W 𝒜 asked a.issuer (member_of a.issuer (reach W 𝒜 asked) t))) (λ t. absurd t)
 
 keep_adds : (p : Assertion → Bool) {Q : Assertion → Type 0} → ((a : Assertion) → Q a → p a ≡ false) → {𝒜 ℬ : List Assertion} → Adds Q 𝒜 ℬ → keep p ℬ ≡ keep p 𝒜
 keep_adds p o done = refl

@@ -16,8 +16,8 @@ use Rattle.model.specs.Records.{Arity}
 use Rattle.model.specs.Safety.{safe_request}
 use Rattle.model.specs.Safe.{SafeRequest}
 use Rattle.model.specs.Bytes.{byte_at, choose, both, Reading, got}
-use Rattle.model.specs.Readings.{Sort, saysSort, testSort, allSort, anySort, notSort, existsSort, noSort, sort_of, node_at, verb_at}
-use Rattle.model.specs.Forms.{Form, ends, broken, noVerb, fact_form, is_kind, verb_form, signature_form}
+use Rattle.model.specs.Readings.{Sort, says_sort, test_sort, all_sort, any_sort, not_sort, exists_sort, no_sort, sort_of, node_at, verb_at}
+use Rattle.model.specs.Forms.{Form, ends, broken, no_verb, fact_form, is_kind, verb_form, signature_form}
 use Rattle.model.specs.Policies.{verb_item, Accepted, policy_of, assertions_from, verbs_from, constants_from, computed_policy, read_policy}
 use Rattle.model.proofs.PolicyReader.{policy_is}
 use Rattle.model.specs.Nodes.{parts_form, check_parts, fitted, check_says, check_test, check_by, check_node}
@@ -28,7 +28,7 @@ use Rattle.model.proofs.KindFacts.{fitting↔}
 use Rattle.model.proofs.ReadFacts.{never, choose_yes, choose_no, and_then_got, list_each, headed_got, ended_got}
 use Rattle.model.proofs.CheckedNodes.{Some, Sound, SoundAll, node_checked}
 use Rattle.model.proofs.RequestReader.{node_is}
-use Rattle.model.proofs.SafetyRules.{Low, low_append, Proper, ProperAll, ProperAny, safe_request}
+use Rattle.model.proofs.SafetyRules.{Low, low_append, Proper, ProperAll, ProperAny, safe_request_law}
 use Rattle.model.proofs.Tests.{both_of}
 use Rattle.model.proofs.ByteFacts.{below_length}
 
@@ -102,7 +102,7 @@ module _ (cs : List Constant) (vs : List Verb) (s : List ℕ) where
   unfolding check_says
   says_fits (ends x) D at E e r = fitted_fits _ at x E e r
   says_fits broken D at E e r = absurd (never 3 at e E r)
-  says_fits noVerb D at E e r = absurd (never 5 at e E r)
+  says_fits no_verb D at E e r = absurd (never 5 at e E r)
 
   parts_fits : (h : Demands → ℕ → Reading Demands) → Fits h → (n : ℕ) (D : Demands) (at : ℕ) (E : Demands) (e : ℕ) → 1 ≤ n → check_parts h n D at ≡ got E e
       → T (fitting cs E)
@@ -126,13 +126,13 @@ module _ (cs : List Constant) (vs : List Verb) (s : List ℕ) where
   by_fits : (k : Sort) (h : Demands → ℕ → Reading Demands) → Fits h → (D : Demands) (at : ℕ) (E : Demands) (e : ℕ) → check_by cs vs s k h D at ≡ got E e
       → T (fitting cs E)
   unfolding check_by check_test
-  by_fits saysSort h f D at E e r = says_fits (fact_form vs s (length s) (at + 3)) D at E e r
-  by_fits testSort h f D at E e r = fitted_fits _ at (at + 6) E e (choose_yes _ _ 3 at E e (choose_no _ _ 3 at E e r).1).1
-  by_fits allSort h f D at E e r = let y = choose_yes _ _ 3 at E e r in parts_fits h f (byte_at s (at + 1)) D (at + 2) E e (some_parts (at + 1) y.0) y.1
-  by_fits anySort h f D at E e r = let y = choose_yes _ _ 3 at E e r in parts_fits h f (byte_at s (at + 1)) D (at + 2) E e (some_parts (at + 1) y.0) y.1
-  by_fits notSort h f D at E e r = f D (at + 1) E e r
-  by_fits existsSort h f D at E e r = f D (at + 2) E e (choose_yes _ _ 3 at E e r).1
-  by_fits noSort h f D at E e r = absurd (never 3 at e E r)
+  by_fits says_sort h f D at E e r = says_fits (fact_form vs s (length s) (at + 3)) D at E e r
+  by_fits test_sort h f D at E e r = fitted_fits _ at (at + 6) E e (choose_yes _ _ 3 at E e (choose_no _ _ 3 at E e r).1).1
+  by_fits all_sort h f D at E e r = let y = choose_yes _ _ 3 at E e r in parts_fits h f (byte_at s (at + 1)) D (at + 2) E e (some_parts (at + 1) y.0) y.1
+  by_fits any_sort h f D at E e r = let y = choose_yes _ _ 3 at E e r in parts_fits h f (byte_at s (at + 1)) D (at + 2) E e (some_parts (at + 1) y.0) y.1
+  by_fits not_sort h f D at E e r = f D (at + 1) E e r
+  by_fits exists_sort h f D at E e r = f D (at + 2) E e (choose_yes _ _ 3 at E e r).1
+  by_fits no_sort h f D at E e r = absurd (never 3 at e E r)
 
   pub node_fits : (d : ℕ) → Fits (check_node cs vs s d)
   unfolding check_node
@@ -160,10 +160,10 @@ verb_kinded s before at v e r =
     let d = (both_of _ _ (both_of _ _ (both_of _ _ c).1).1).0 in
     subst (λ (w : Verb). T (all is_kind w.kinds)) (let z : verb_at s at ≡ v = let k = b.1 in cc in z) d
 
-kinds_at : (vs : List Verb) → ((v : Verb) → Memᴰ v vs → T (all is_kind v.kinds)) → (v : ℕ) → T (all is_kind (get_or (map (λ (x : Verb). x.kinds) vs) v []))
-kinds_at [] h v = tt
-kinds_at (x ∷ vs) h zero = h x (Memᴰ.head refl)
-kinds_at (x ∷ vs) h (suc v) = kinds_at vs (λ w m. h w (Memᴰ.tail m)) v
+kinds_at_law : (vs : List Verb) → ((v : Verb) → Memᴰ v vs → T (all is_kind v.kinds)) → (v : ℕ) → T (all is_kind (get_or (map (λ (x : Verb). x.kinds) vs) v []))
+kinds_at_law [] h v = tt
+kinds_at_law (x ∷ vs) h zero = h x (Memᴰ.head refl)
+kinds_at_law (x ∷ vs) h (suc v) = kinds_at_law vs (λ w m. h w (Memᴰ.tail m)) v
 
 accepted_kinded : (s : List ℕ) (A : Accepted) (e : ℕ) → read_policy s ≡ got A e → (v : ℕ) → T (all is_kind (param_kinds (policy_of A).verbs v))
 unfolding computed_policy constants_from verbs_from assertions_from
@@ -173,13 +173,13 @@ accepted_kinded s A e r (suc v) =
     let d = and_then_got _ _ A e c.3 in
     let a = and_then_got _ _ A e d.3 in
     let q = ended_got s _ A a.1 e a.3 in
-    kinds_at (policy_of A).verbs (subst (λ (B : Accepted). (x : Verb) → Memᴰ x (policy_of B).verbs → T (all is_kind x.kinds)) q
+    kinds_at_law (policy_of A).verbs (subst (λ (B : Accepted). (x : Verb) → Memᴰ x (policy_of B).verbs → T (all is_kind x.kinds)) q
     (list_each (verb_item s) (λ (x : Verb). T (all is_kind x.kinds)) (verb_kinded s) s 0 _ c.1 d.0 d.1 d.2)) v
 
 pub policy_kinded : (policy : List ℕ) (P : Policy) → ReadAs policy P → (v : ℕ) → T (all is_kind (param_kinds P.verbs v))
 policy_kinded policy P h =
     subst (λ (Q : Policy). (v : ℕ) → T (all is_kind (param_kinds Q.verbs v))) h.3 (accepted_kinded policy h.0 h.1 h.2)
 
-pub safely_asked : (policy request : List ℕ) (P : Policy) → ReadAs policy P → (n : Node) (e : ℕ)
+pub safely_asked_law : (policy request : List ℕ) (P : Policy) → ReadAs policy P → (n : Node) (e : ℕ)
     → node request P.constants P.verbs 8 no_demands 0 (length request) 9 ≡ got n e → T (safe_request n) ↔ SafeRequest n
-safely_asked policy request P h n e r = safe_request n (asked_proper P.constants P.verbs request (policy_kinded policy P h) n e r)
+safely_asked_law policy request P h n e r = safe_request_law n (asked_proper P.constants P.verbs request (policy_kinded policy P h) n e r)

@@ -35,21 +35,21 @@ use Rattle.theorems.specs.Theorems.{read_in_version}
 use Rattle.model.proofs.ListFacts.{and_of, keep_of, keep_in, member_of, member_in}
 use Rattle.model.proofs.ClosureFacts.{derives↔within, derives_more, within_more}
 use Rattle.model.proofs.RoundFacts as S
-use Rattle.model.proofs.BindingFacts.{bindings_of}
+use Rattle.model.proofs.BindingFacts.{bindings_of_law}
 use Rattle.model.proofs.HierarchyFacts.{descendants_of, descendants_in, covered_of, covered_in}
 use Rattle.model.proofs.StepFacts.{eq_said_of, eq_said_refl, three_only, step_of, step_in}
-use Rattle.model.proofs.ReachFacts.{reach_of, reach_in, reach↔}
+use Rattle.model.proofs.ReachFacts.{reach_of_law, reach_in, reach↔}
 use Rattle.model.proofs.RecordFacts.{fits, same_key}
 use Rattle.model.proofs.OutcomeFacts.{clash, meant_unique, meant, same_entry}
 use Rattle.theorems.proofs.Outside.{counting_same}
 use Rattle.model.proofs.Inside.{inside}
 use Rattle.theorems.proofs.Growth.{holds_more, rule_grows}
 use Rattle.theorems.proofs.VersionFacts.{within_first, reach_in_first, rule_in_first}
-use Rattle.model.proofs.WithdrawalFacts.{left_in_law, counted_in, left_all, adds_kept, serials_aside}
+use Rattle.model.proofs.WithdrawalFacts.{left_in_law, counted_in_law, left_all, adds_kept, serials_aside_law}
 use Rattle.model.proofs.ReadFacts.{accepted_count, subject_placed, policy_fine}
-use Rattle.model.proofs.KindFacts.{fitting↔, one_kind}
-use Rattle.model.proofs.DecisionFacts.{slice_by_slice, of_slices, reports, rounds_facts, answer_at, get_d_in, in_get_d}
-use Rattle.theorems.proofs.ProperRequests.{safely_asked}
+use Rattle.model.proofs.KindFacts.{fitting↔, one_kind_law}
+use Rattle.model.proofs.DecisionFacts.{slice_by_slice_law, of_slices, reports, rounds_facts, answer_at, get_d_in, in_get_d}
+use Rattle.theorems.proofs.ProperRequests.{safely_asked_law}
 use Rattle.theorems.proofs.BoundVariables.{instances}
 use Rattle.theorems.proofs.Grounded.{grounded}
 use Rattle.theorems.proofs.FreeVariables.{whole, free_placed, answering, answered}
@@ -74,12 +74,12 @@ rounds_at_most_facts = rounds_facts
 -- ---- the outcome
 
 pub slice_by_slice : Q.SliceBySlice
-slice_by_slice s R = (slice_by_slice s R, of_slices s R)
+slice_by_slice s R = (slice_by_slice_law s R, of_slices s R)
 
 module _ (s : Slices) (R : Read) (h : Inputs s R) where
   counting_arity : (a : Assertion) → Memᴰ a (counted_in R) → Arity R.policy.verbs a.head
   counting_arity a m =
-      (policy_fine s.policy R.policy (slice_by_slice s R h).read_as a (counted_in R a m)).arity
+      (policy_fine s.policy R.policy (slice_by_slice_law s R h).read_as a (counted_in_law R a m)).arity
 
   meant_by : (c r : ℕ) → MeantBy R c r (decide R c r)
   meant_by c r = meant (world_in R) (counted_in R) R.request.node c r counting_arity
@@ -175,7 +175,7 @@ pub computed_reach : Q.ComputedReach
 computed_reach W 𝒜 asked = (
   reach↔ W 𝒜 asked,
   λ a. (
-    λ m. let k = keep_of (issued_in (reach W 𝒜 asked)) 𝒜 m in (k.0, reach_of W 𝒜 asked a.issuer (member_of a.issuer (reach W 𝒜 asked) k.1)),
+    λ m. let k = keep_of (issued_in (reach W 𝒜 asked)) 𝒜 m in (k.0, reach_of_law W 𝒜 asked a.issuer (member_of a.issuer (reach W 𝒜 asked) k.1)),
     λ m. keep_in (issued_in (reach W 𝒜 asked)) m.0 (member_in (reach_in W 𝒜 asked a.issuer m.1)),
   ),
 )
@@ -188,9 +188,9 @@ abbrev another : Read → Policy → Read
 another R L = read L R.request R.withdrawals R.hierarchy
 
 module _ (R : Read) (L : Policy) (cs : L.constants ≡ R.policy.constants) (vs : L.verbs ≡ R.policy.verbs) where
-  with_policy : (l : Lent) (other : List ℕ) → Inputs l.slices R → ReadAs other L → Inputs (with_policy other l).slices (another R L)
-  with_policy l other h a =
-      let k = slice_by_slice l.slices R h in
+  with_policy_law : (l : Lent) (other : List ℕ) → Inputs l.slices R → ReadAs other L → Inputs (with_policy other l).slices (another R L)
+  with_policy_law l other h a =
+      let k = slice_by_slice_law l.slices R h in
       of_slices (with_policy other l).slices (another R L) (record {
         read_as = a;
         asked_as = (k.asked_as.0, rw (cs, vs) k.asked_as.1);
@@ -210,7 +210,7 @@ same_buffers (decided F A) l s = refl
 
 module _ {X : Assertion → Type 0} (R : Read) (L : Policy) (x : Longer X R.policy L) where
   longer_inputs : (l : Lent) (longer : List ℕ) → Inputs l.slices R → ReadAs longer L → Inputs (with_policy longer l).slices (another R L)
-  longer_inputs l longer h a = with_policy R L x.constants x.verbs l longer h a
+  longer_inputs l longer h a = with_policy_law R L x.constants x.verbs l longer h a
 
   longer_world : world_in (another R L) ≡ world_in R
   longer_world = same_world R L x.constants x.verbs x.version
@@ -249,11 +249,11 @@ pub insiders : Q.Insiders
 insiders s R h n x r =
     let P = R.policy in
     inside (world_in R) (issuers R.request.node (world_in R)) (left_in R)
-    (λ a m. subject_placed P.constants P.verbs a (policy_fine s.policy P (slice_by_slice s R h).read_as a (left_in_law R a m)).fit) n x r
+    (λ a m. subject_placed P.constants P.verbs a (policy_fine s.policy P (slice_by_slice_law s R h).read_as a (left_in_law R a m)).fit) n x r
 
 -- the answers of a decision are those that its buffer lists
 binding_length : (W : World) (n : Node) (θ : List ℕ) → Memᴰ θ (bindings_in W n) → length θ ≡ answer_bytes
-binding_length W n θ m = (bindings_of W.constants (free_kinds W n) θ m).0
+binding_length W n θ m = (bindings_of_law W.constants (free_kinds W n) θ m).0
 
 module _ (W : World) (𝒜 : List Assertion) (n : Node) (c r : ℕ) (l : Lent) where
   -- listed ↔ satisfying, where there is a decision
@@ -313,7 +313,7 @@ pub no_more_in_reach : Q.NoMoreInReach
 no_more_in_reach R = record { reach = reach_in_first R; within = λ n x w. within_more (rule_in_first R) n x w }
 
 pub growing_by_version : Q.GrowingByVersion
-growing_by_version l other R h a p d d' θ k = listed_more l (with_policy other l) R₂ R₁ h (with_policy R₂ R₁.policy refl refl l other h a) d d' θ more k
+growing_by_version l other R h a p d d' θ k = listed_more l (with_policy other l) R₂ R₁ h (with_policy_law R₂ R₁.policy refl refl l other h a) d d' θ more k
   where
     R₁ : Read
     R₁ = read_in_version 1 R
@@ -337,19 +337,19 @@ pub kinds_fit : Q.KindsFit
 kinds_fit cs D = (λ t. let w = (fitting↔ cs D).0 t in (w.0, (w.1, w.2, w.3)), λ w. (fitting↔ cs D).1 (w.0, w.1.0, w.1.1, w.1.2))
 
 pub one_kind : Q.OneKind
-one_kind cs D κ t v h = one_kind cs κ D.places (and_of (all (in_place cs κ) D.places) (all (comparable cs κ) D.tests) t).0 v h
+one_kind cs D κ t v h = one_kind_law cs κ D.places (and_of (all (in_place cs κ) D.places) (all (comparable cs κ) D.tests) t).0 v h
 
 pub instance_bindings : Q.InstanceBindings
 instance_bindings policy P q r a m θ = instances policy P r q.today a m θ
 
 pub answer_bindings : Q.AnswerBindings
 answer_bindings s R h θ =
-    let i = slice_by_slice s R h in
+    let i = slice_by_slice_law s R h in
     answering s.policy s.request R.policy R.request i.read_as i.asked_as θ
 
 pub whole_node_fits : Q.WholeNodeFits
 whole_node_fits s R h =
-    let i = slice_by_slice s R h in
+    let i = slice_by_slice_law s R h in
     let P = R.policy in
     (kinds_fit P.constants (demands_in R.request.node P.verbs)).0 (whole s.policy s.request P R.request i.read_as i.asked_as).fit
 
@@ -366,7 +366,7 @@ below_unbound policy P r c n = go (dec_lt c unbound)
 
 pub free_answers : Q.FreeAnswers
 free_answers s R h θ a v t =
-    let i = slice_by_slice s R h in
+    let i = slice_by_slice_law s R h in
     let P = R.policy in
     let q = R.request in
     let k = answered s.policy s.request P q i.read_as i.asked_as θ a.0 v t in
@@ -376,12 +376,12 @@ free_answers s R h θ a v t =
 -- ---- ground
 
 pub ground : Q.Ground
-ground s R h x d = let i = slice_by_slice s R h in grounded s.policy s.hierarchy R i.read_as i.ranked_as x d
+ground s R h x d = let i = slice_by_slice_law s R h in grounded s.policy s.hierarchy R i.read_as i.ranked_as x d
 
 -- ---- safety
 
 pub safely_asked : Q.SafelyAsked
-safely_asked policy request P h n e r = safely_asked policy request P h n e r
+safely_asked policy request P h n e r = safely_asked_law policy request P h n e r
 
 -- ---- withdrawals
 
@@ -421,7 +421,7 @@ withdrawn_is_absent l other R L h a e =
     vs = ap (λ (P : Policy). P.verbs) e
 
     others : InputsBySlice (with_policy other l).slices (another R L)
-    others = slice_by_slice (with_policy other l).slices (another R L) (with_policy R L cs vs l other h a)
+    others = slice_by_slice_law (with_policy other l).slices (another R L) (with_policy_law R L cs vs l other h a)
 
     inputs : Inputs l'.slices R'
     inputs = (nothing_withdrawn l'.slices L R.request R.hierarchy refl a others.asked_as others.ranked_as).0
@@ -437,7 +437,7 @@ withdrawn_is_absent l other R L h a e =
 
 pub serials_aside : Q.SerialsAside
 serials_aside l other R L h a none e =
-    reports (with_policy other l) (another R L) (with_policy R L cs vs l other h a)
+    reports (with_policy other l) (another R L) (with_policy_law R L cs vs l other h a)
     ∙ (same_buffers (decide (another R L) c r) l _ ∙ (ap (λ (o : Outcome). reported o l) same ∙ sym (reports l R h)))
   where
     W : World
@@ -469,7 +469,7 @@ serials_aside l other R L h a none e =
     same =
         (λ i. by (same_world R L cs vs (ap (λ (P : Policy). P.version) e) i) (none i) L.assertions)
         ∙ (all_left L.assertions
-        ∙ (serials_aside W L.assertions R.policy.assertions (issuers n W) n c r (ap (λ (P : Policy). P.assertions) e)
+        ∙ (serials_aside_law W L.assertions R.policy.assertions (issuers n W) n c r (ap (λ (P : Policy). P.assertions) e)
         ∙ (sym (all_left R.policy.assertions) ∙ (λ i. by W (sym none i) R.policy.assertions))))
 
 -- ---- the hierarchy

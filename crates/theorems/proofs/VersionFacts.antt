@@ -18,7 +18,7 @@ use Rattle.model.specs.Inputs.{InReach}
 use Rattle.theorems.specs.Theorems.{in_version, read_in_version}
 use Rattle.model.proofs.ListFacts.{all_of_law, all_in, keep_of, keep_in, member_of, member_in}
 use Rattle.model.proofs.ClosureFacts.{derives_more, within_more}
-use Rattle.model.proofs.ReachFacts.{reach_of, reach_in}
+use Rattle.model.proofs.ReachFacts.{reach_of_law, reach_in}
 use Rattle.model.proofs.WorldFacts.{passes_world, joining_world, issuers_world, left_world}
 
 -- version 1 carries every verb phrase
@@ -60,7 +60,7 @@ module _ (W : World) where
   counting_first 𝒜 asked a m =
       let p = a.issuer in
       let k = keep_of (issued_in (reach second 𝒜 asked)) 𝒜 m in
-      let r = reach_first 𝒜 asked p (reach_of second 𝒜 asked p (member_of p (reach second 𝒜 asked) k.1)) in
+      let r = reach_first 𝒜 asked p (reach_of_law second 𝒜 asked p (member_of p (reach second 𝒜 asked) k.1)) in
       keep_in (issued_in (reach first 𝒜 asked)) k.0 (member_in (reach_in first 𝒜 asked p r))
 
   -- by the assertions that each one's reach counts

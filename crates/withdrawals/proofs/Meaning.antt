@@ -67,20 +67,20 @@ module _ (s : List ℕ) where
           let n : x ≡ today_code → ⊥ = λ e. omega arith in
           rw (le-ltb x first_variable l, ne_eqb x today_code n)
 
-  test_closed : (p : ℕ) → test_closed s p ≡ eqb (length (vars_of (expr_at s (p + 1)) ++ vars_of (expr_at s (p + 3)))) 0
+  test_closed_law : (p : ℕ) → test_closed s p ≡ eqb (length (vars_of (expr_at s (p + 1)) ++ vars_of (expr_at s (p + 3)))) 0
   unfolding test_closed
-  test_closed p = none_both (vars_of (expr_at s (p + 1))) (vars_of (expr_at s (p + 3))) _ _ (expr_closed (p + 1)) (expr_closed (p + 3))
+  test_closed_law p = none_both (vars_of (expr_at s (p + 1))) (vars_of (expr_at s (p + 3))) _ _ (expr_closed (p + 1)) (expr_closed (p + 3))
 
-  tests_closed : (n p : ℕ) → tests_closed n s p ≡ eqb (length (each (constraints_at n s p) vars_test)) 0
+  tests_closed_law : (n p : ℕ) → tests_closed n s p ≡ eqb (length (each (constraints_at n s p) vars_test)) 0
   unfolding tests_closed constraints_at
-  tests_closed zero p = refl
-  tests_closed (suc n) p =
-      none_both (vars_of (expr_at s (p + 1)) ++ vars_of (expr_at s (p + 3))) (each (constraints_at n s (p + 5)) vars_test) _ _ (test_closed p)
-      (tests_closed n (p + 5))
+  tests_closed_law zero p = refl
+  tests_closed_law (suc n) p =
+      none_both (vars_of (expr_at s (p + 1)) ++ vars_of (expr_at s (p + 3))) (each (constraints_at n s (p + 5)) vars_test) _ _ (test_closed_law p)
+      (tests_closed_law n (p + 5))
 
   closed_is : (at : ℕ) → closed_at s at ≡ eqb (length (vars_withdrawal (withdrawal_at s at))) 0
   unfolding closed_at withdrawal_at
-  closed_is at = none_both (vars_of (expr_at s at)) _ _ _ (expr_closed at) (tests_closed (byte_at s (at + 6)) (at + 7))
+  closed_is at = none_both (vars_of (expr_at s at)) _ _ _ (expr_closed at) (tests_closed_law (byte_at s (at + 6)) (at + 7))
 
 -- ---- the entries of an accepted slice
 
@@ -133,7 +133,7 @@ right_operators false false false d h = h
 module _ {cs : List Constant} {vs : List Verb} {ks sg : List ℕ} (X : Tables cs vs ks sg) (s : List ℕ) where
   asks_are : (at : ℕ) → entry_asks ks s at ≡ asks_for cs (withdrawal_demands (withdrawal_at s at))
   unfolding entry_asks withdrawal_at kind_term choose
-  asks_are at = ap₂ (λ (a : ℕ) (l : List Ask). same a 8 ∷ l) (phrase.place_is X s at) (phrase.tests_asks X s (byte_at s (at + 6)) (at + 7))
+  asks_are at = ap₂ (λ (a : ℕ) (l : List Ask). same a 8 ∷ l) (phrase.place_is X s at) (phrase.tests_asks_law X s (byte_at s (at + 6)) (at + 7))
 
   fits_is : (at : ℕ) → withdrawal_form s at ≡ true → (feed (entry_asks ks s at) nothing).ok ≡ fitting cs (withdrawal_demands (withdrawal_at s at))
   unfolding withdrawal_form withdrawal_at

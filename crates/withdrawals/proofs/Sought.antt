@@ -91,8 +91,8 @@ module _ {s ats links : List ℕ} {count : ℕ} (L : Linked s ats links count) w
   pub head_there : (b : ℕ) → b < buckets → b < length links
   head_there b h = let r = L.chained.room in omega arith
 
-  pub head_entry : (b i : ℕ) → b < buckets → i ≡ get_or links b 0 → i ≤ count
-  head_entry b i h e = let n = L.chained.heads b h in let z = long in omega arith
+  pub head_entry_law : (b i : ℕ) → b < buckets → i ≡ get_or links b 0 → i ≤ count
+  head_entry_law b i h e = let n = L.chained.heads b h in let z = long in omega arith
 
   module _ (issuer serial : ℕ) where
     -- entry j is for them

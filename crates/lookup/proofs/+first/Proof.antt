@@ -9,7 +9,7 @@ use borrow.Author.Rules.{rules}
 use borrow.Fn.Kinds.{In}
 use borrow.Fn.PlainCycle.{Measures, is, falls, and}
 use Rattle.lookup.specs.Named.{named_at, Standing}
-use Rattle.lookup.proofs.Laws.{first_none, first_here, first_on}
+use Rattle.lookup.proofs.Laws.{first_none, first_here_law, first_on}
 use Rattle.lookup.proofs.first.Reads as first
 use Rattle.lookup.proofs.first.Kinds as first-kinds
 use Rattle.lookup.proofs.+first.Lts-first as first-lts
@@ -51,7 +51,7 @@ pub +first-spec : {M : Type 1} → statement M
     (S.long entry.args.i l, S.near.small entry.args.i l))
     -- it is the one
     (λ c. omega arith)
-    (λ c. let named = c.before.named in first_here _ _ _ (search rules) (sym named.ensures ∙ c.if2.true))
+    (λ c. let named = c.before.named in first_here_law _ _ _ (search rules) (sym named.ensures ∙ c.if2.true))
     -- it is another
     (λ c. omega arith)
     (λ c. omega arith)

@@ -19,7 +19,7 @@ use Rattle.wire.proofs.Reading.{reading}
 use native.Mathlib.Omega.{arith}
 use borrow.Author.Rules.{rules}
 use Prim.Native.Nat.{◌+◌, ◌*◌}
-use Rattle.safety.proofs.SafetySteps.{via_num, via_other, binders_deep, binders_past, binders_says, binders_test, binders_all, binders_any, binders_not}
+use Rattle.safety.proofs.SafetySteps.{via_num, via_other, binders_deep, binders_past, binders_says, binders_test, binders_all_law, binders_any, binders_not}
 use Rattle.safety.proofs.SafetySteps.{binders_new, binders_old, binders_nothing, binders_none, binders_more, binders_stop}
 
 abbrev μ-binders-node : Measures 2 binders-node-kinds.ps ℕ
@@ -109,7 +109,7 @@ pub +binders-node-binders-parts-spec : {M : Type 1} → statement M
     (λ c. omega arith)
     (λ c. search (binders_says, reading, rules))
     (λ c. search (binders_test, reading, rules))
-    (λ c. let h = rw c.before.byte_or.ensures.0 at c.binders-parts.ensures in search (binders_all, reading, rules))
+    (λ c. let h = rw c.before.byte_or.ensures.0 at c.binders-parts.ensures in search (binders_all_law, reading, rules))
     (λ c. let h = rw c.before.byte-or2.ensures.0 at c.binders-parts2.ensures in search (binders_any, reading, rules))
     (λ c. search (binders_not, reading, rules))
     (λ c.

@@ -1,10 +1,10 @@
 use Prim.Native.Nat.{ℕ, ◌<◌}
 use borrow.Fn.Kinds.{In}
 use borrow.Fn.PlainCycle.{Measures, is, falls, and}
-use Rattle.safety.proofs.known_all.Reads as known_all
+use Rattle.safety.proofs.known_all.Reads as known_all_law
 use Rattle.safety.proofs.known_all.Kinds as known-all-kinds
 use Rattle.safety.proofs.+known_all_known_any_known_node.Lts-known_all as known-all-lts
-use Rattle.safety.proofs.known_any.Reads as known_any
+use Rattle.safety.proofs.known_any.Reads as known_any_law
 use Rattle.safety.proofs.known_any.Kinds as known-any-kinds
 use Rattle.safety.proofs.+known_all_known_any_known_node.Lts-known_any as known-any-lts
 use Rattle.safety.proofs.known_node.Reads as known-node
@@ -28,7 +28,7 @@ use native.Mathlib.Omega.{arith}
 use borrow.Author.Rules.{rules}
 use Prim.Native.Nat.{◌+◌, ◌*◌}
 use Rattle.safety.proofs.SafetySteps.{via_num, via_other}
-use Rattle.safety.proofs.KnownSteps.{known_deep, known_past, known_says, known_test, known_all, known_any, known_not, known_not_free, known_exists}
+use Rattle.safety.proofs.KnownSteps.{known_deep, known_past, known_says_law, known_test, known_all_law, known_any_law, known_not, known_not_free, known_exists}
 use Rattle.safety.proofs.KnownSteps.{known_again, known_nothing, all_none, all_more, all_stop, any_none, any_more, any_stop}
 
 abbrev μ-known-all : Measures 2 known-all-kinds.ps ℕ
@@ -41,18 +41,18 @@ abbrev μ-known-node : Measures 2 known-node-kinds.ps ℕ
 μ-known-node κs a = 512 * a.1.1.0
 
 abbrev known-all-at : ℕ → In 2 known-all-kinds.ps
-known-all-at t = and 2 known-all-kinds.ps (is 2 known-all-kinds.ps μ-known-all t) known_all.Pre
+known-all-at t = and 2 known-all-kinds.ps (is 2 known-all-kinds.ps μ-known-all t) known_all_law.Pre
 
 abbrev known-all-below : ℕ → In 2 known-all-kinds.ps
 known-all-below t =
-    and 2 known-all-kinds.ps (falls 2 known-all-kinds.ps ◌<◌ μ-known-all t) known_all.Pre
+    and 2 known-all-kinds.ps (falls 2 known-all-kinds.ps ◌<◌ μ-known-all t) known_all_law.Pre
 
 abbrev known-any-at : ℕ → In 2 known-any-kinds.ps
-known-any-at t = and 2 known-any-kinds.ps (is 2 known-any-kinds.ps μ-known-any t) known_any.Pre
+known-any-at t = and 2 known-any-kinds.ps (is 2 known-any-kinds.ps μ-known-any t) known_any_law.Pre
 
 abbrev known-any-below : ℕ → In 2 known-any-kinds.ps
 known-any-below t =
-    and 2 known-any-kinds.ps (falls 2 known-any-kinds.ps ◌<◌ μ-known-any t) known_any.Pre
+    and 2 known-any-kinds.ps (falls 2 known-any-kinds.ps ◌<◌ μ-known-any t) known_any_law.Pre
 
 abbrev known-node-at : ℕ → In 2 known-node-kinds.ps
 known-node-at t =
@@ -70,10 +70,10 @@ pub +known-all-known-any-known-node-spec : {M : Type 1} → statement M
       node-end-reads.Asked,
       node-end-reads.Learnt,
       known-all-below t,
-      known_all.Post,
+      known_all_law.Post,
     )
     (known-all-at t)
-    known_all.Post
+    known_all_law.Post
     (λ c. search (all_none, reading, rules))
     (λ c κs. omega arith)
     (λ c. omega arith)
@@ -87,12 +87,12 @@ pub +known-all-known-any-known-node-spec : {M : Type 1} → statement M
       node-end-reads.Asked,
       node-end-reads.Learnt,
       known-any-below t,
-      known_any.Post,
+      known_any_law.Post,
       met-reads.Asked,
       met-reads.Learnt,
     )
     (known-any-at t)
-    known_any.Post
+    known_any_law.Post
     (λ c. search (any_none, reading, rules))
     (λ c κs. omega arith)
     (λ c. omega arith)
@@ -111,9 +111,9 @@ pub +known-all-known-any-known-node-spec : {M : Type 1} → statement M
       byte-or-reads.Asked,
       byte-or-reads.Learnt,
       known-all-below t,
-      known_all.Post,
+      known_all_law.Post,
       known-any-below t,
-      known_any.Post,
+      known_any_law.Post,
       not-needs-reads.Asked,
       not-needs-reads.Learnt,
       known-node-below t,
@@ -171,10 +171,10 @@ pub +known-all-known-any-known-node-spec : {M : Type 1} → statement M
     search (known_exists, via_num, reading, rules))
     (λ c κs. omega arith)
     (λ c. omega arith)
-    (λ c. search (known_says, reading, rules))
+    (λ c. search (known_says_law, reading, rules))
     (λ c. search (known_test, reading, rules))
-    (λ c. let h = rw c.before.byte_or.ensures.0 at c.known-all.ensures in search (known_all, reading, rules))
-    (λ c. let h = rw c.before.byte-or2.ensures.0 at c.known-any.ensures in search (known_any, reading, rules))
+    (λ c. let h = rw c.before.byte_or.ensures.0 at c.known-all.ensures in search (known_all_law, reading, rules))
+    (λ c. let h = rw c.before.byte-or2.ensures.0 at c.known-any.ensures in search (known_any_law, reading, rules))
     (λ c. search (known_not_free, reading, rules))
     (λ c.
     let h = rw c.before.before.before.byte-or3.ensures.0 at c.before.before.mark_of.ensures in

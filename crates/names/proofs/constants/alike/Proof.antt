@@ -6,7 +6,7 @@ use Rattle.model.specs.Readings.{item_end}
 use Rattle.model.specs.Readings.{item_end, has_label}
 use mathlib.Core.Path.{sym, ap, ◌∙◌}
 use Rattle.wire.proofs.Reading.{via, eqb_of}
-use Rattle.names.proofs.FormFacts.{constant_within, constant_two, number_five, kinds_differ, alike_labels, alike_numbers}
+use Rattle.names.proofs.FormFacts.{constant_within, constant_two, number_five, kinds_differ, alike_labels_law, alike_numbers}
 
 pub alike_spec : {M : Type 1} → statement M
 unfolding item_end
@@ -18,7 +18,7 @@ alike_spec = tie.close (tie.spec
     (λ c κs. search rules)
     (λ c κs. let h = c.before.before.before.before.before.before.requires.1 in
     (c.before.before.before.before.before.before.requires.0, constant_within _ _ h, constant_two _ _ h))
-    (λ c. alike_labels _ _ _ _ (sym c.before.before.before.before.before.byte.ensures.0 ∙ c.before.before.before.if1.true
+    (λ c. alike_labels_law _ _ _ _ (sym c.before.before.before.before.before.byte.ensures.0 ∙ c.before.before.before.if1.true
     ∙ c.before.before.before.before.byte2.ensures.0)
     (ap has_label (sym c.before.before.before.before.before.byte.ensures.0) ∙ via c.before.before.has-label.ensures
     c.before.if2.true) c.same-label.ensures)

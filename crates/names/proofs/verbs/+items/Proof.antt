@@ -8,7 +8,7 @@ use Rattle.labels.specs.Hash.{buckets}
 use Rattle.names.specs.Seeking.{verb_bucket}
 use Rattle.slices.proofs.ListFacts.{items_none, items_refused, items_next, next_ends}
 use Rattle.names.proofs.ItemFacts.{verb_reads}
-use Rattle.names.proofs.Seeking.{verb_formed, verb_bucket, listed_after, set_long, linked_long}
+use Rattle.names.proofs.Seeking.{verb_formed, verb_bucket_law, listed_after, set_long, linked_long}
 use Prim.Native.Nat.{ℕ, ◌<◌}
 use borrow.Fn.Kinds.{In}
 use borrow.Fn.PlainCycle.{Measures, is, falls, and}
@@ -66,7 +66,7 @@ pub +items-spec : {M : Type 1} → statement M
     let given = entry.requires.1 in
     let listed = given.0.1 in
     let here = given.0.2 in
-    let more = listed_after _ _ _ _ _ _ _ listed _ (sym here) (verb_bucket read) (omega (arith, given.1)) (omega (arith, given.2)) _ _
+    let more = listed_after _ _ _ _ _ _ _ listed _ (sym here) (verb_bucket_law read) (omega (arith, given.1)) (omega (arith, given.2)) _ _
     list.list.ensures.0 list.list.ensures.1 in
     let next = next_ends _ _ _ _ (verb_reads entry.args.s.now) _ _ _ _ _ here (item.item.ensures given.0.0 _ listed) e.e.given.1 in
     let long : length list.list.new.1.1.1.0 ≡ length entry.args.ats.now = set_long _ args.ats.now args.k args.at
@@ -88,7 +88,7 @@ pub +items-spec : {M : Type 1} → statement M
     let read = verb_at args.s.now args.at in
     let given = entry.requires.1 in
     λ p listed here.
-    let more = listed_after _ _ _ _ _ _ _ listed _ (sym here) (verb_bucket read) (omega (arith, given.1)) (omega (arith, given.2)) _ _
+    let more = listed_after _ _ _ _ _ _ _ listed _ (sym here) (verb_bucket_law read) (omega (arith, given.1)) (omega (arith, given.2)) _ _
     list.list.ensures.0 list.list.ensures.1 in
     let step = item.item.ensures p _ listed in
     let next = next_ends _ _ _ _ (verb_reads entry.args.s.now) _ _ _ _ _ here step e.e.given.1 in

@@ -6,7 +6,7 @@ use Rattle.wire.proofs.Reading.{via}
 use Rattle.model.specs.Readings.{item_end}
 use Rattle.model.specs.Policies.{verb_item}
 use Rattle.names.proofs.FormFacts.{verb_within}
-use Rattle.slices.proofs.ListFacts.{item_end}
+use Rattle.slices.proofs.ListFacts.{item_end_law}
 use Rattle.names.proofs.ItemFacts.{item_form, item_alike, item_new}
 use Rattle.names.proofs.verbs.item.Statement.{statement}
 use Rattle.names.proofs.verbs.item.Tie as tie
@@ -43,7 +43,7 @@ returns-2 c =
     λ p k listed.
     item_new _ _ _ _ _ (via formed.before.verb-form.ensures formed.if1.true)
     (via (c.before.before.seen.ensures p k listed) c.before.if2.false) _
-    (item_end entry.args.s.now _ _ c.byte.ensures.0)
+    (item_end_law entry.args.s.now _ _ c.byte.ensures.0)
 
 returns-3 : tie.Need-returns-3
 unfolding verb_item

@@ -6,7 +6,7 @@ use lib.Seq.{sets}
 use Rattle.wire.specs.Budget.{farthest}
 use Rattle.slices.specs.Items.{starts_at}
 use Rattle.model.specs.Readings.{item_end}
-use Rattle.slices.proofs.ListFacts.{item_end}
+use Rattle.slices.proofs.ListFacts.{item_end_law}
 use Rattle.policy.proofs.TableLaws.{all_starts, left_starts, done_starts}
 use Rattle.policy.proofs.tables.put_items.Statement.{statement}
 use Rattle.policy.proofs.tables.put_items.Tie as tie
@@ -31,7 +31,7 @@ put-items-spec = tie.close (tie.spec invariant-loop decreases-loop
     (λ c.
     let l = c.before.before.loop in
     let s = c.before.before.before.before.before.args.policy.now in
-    let next = left_starts (item_end s) _ _ _ _ _ (omega arith) (item_end _ _ _ c.byte_or.ensures.0) in
+    let next = left_starts (item_end s) _ _ _ _ _ (omega arith) (item_end_law _ _ _ c.byte_or.ensures.0) in
     (omega arith, rw length-set l.invariant.1, omega arith, sym next ∙ l.invariant.3))
     (λ c. c.before.loop.invariant.1)
     (λ c. let l = c.before.loop in sym (done_starts (item_end c.before.before.before.before.args.policy.now) _ _ _ _ _ (omega arith)) ∙ l.invariant.3))

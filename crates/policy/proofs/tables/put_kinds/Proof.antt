@@ -8,7 +8,7 @@ use Rattle.slices.specs.Items.{starts_at}
 use mathlib.Core.List.{map}
 use Rattle.model.specs.Readings.{item_end}
 use Rattle.policy.specs.Index.{kind_of}
-use Rattle.slices.proofs.ListFacts.{item_end}
+use Rattle.slices.proofs.ListFacts.{item_end_law}
 use Rattle.policy.proofs.TableLaws.{all_map, left_map, done_map, kind_at}
 use Rattle.policy.proofs.tables.put_kinds.Statement.{statement}
 use Rattle.policy.proofs.tables.put_kinds.Tie as tie
@@ -35,7 +35,7 @@ put-kinds-spec = tie.close (tie.spec invariant-loop decreases-loop
     (λ c.
     let l = c.before.before.before.loop in
     let s = c.before.before.before.before.before.before.args.policy.now in
-    let end = item_end _ _ _ c.byte_or.ensures.0 in
+    let end = item_end_law _ _ _ c.byte_or.ensures.0 in
     let next = left_map (item_end s) (kind_of s) _ _ _ _ _ _ (omega arith) end (kind_at _ _ _ c.before.u8-or.ensures) in
     (omega arith, rw length-set l.invariant.1, omega arith, sym next ∙ l.invariant.3))
     (λ c. c.before.loop.invariant.1)

@@ -8,7 +8,7 @@ use Rattle.slices.specs.Items.{starts_at}
 use Rattle.model.specs.Lists.{each}
 use Rattle.model.specs.Readings.{item_end}
 use Rattle.policy.specs.Index.{row_at}
-use Rattle.slices.proofs.ListFacts.{item_end}
+use Rattle.slices.proofs.ListFacts.{item_end_law}
 use Rattle.policy.proofs.TableLaws.{all_rows, left_rows, done_rows, row_length}
 use Rattle.policy.proofs.tables.put_rows.Statement.{statement}
 use Rattle.policy.proofs.tables.put_rows.Tie as tie
@@ -50,7 +50,7 @@ put-rows-spec = tie.close (tie.spec invariant-loop decreases-loop
     let l = c.before.before.before.loop in
     let s = c.before.before.before.before.before.before.args.policy.now in
     let row = c.before.row.ensures in
-    let next = left_rows (item_end s) (row_at s) _ _ _ _ _ _ (omega arith) (item_end _ _ _ c.byte_or.ensures.0) row (rw row (row_length _ _)) in
+    let next = left_rows (item_end s) (row_at s) _ _ _ _ _ _ (omega arith) (item_end_law _ _ _ c.byte_or.ensures.0) row (rw row (row_length _ _)) in
     (omega arith, simp length-set l.invariant.1, omega arith, sym next ∙ l.invariant.3))
     (λ c. c.before.loop.invariant.1)
     (λ c.

@@ -17,7 +17,7 @@ use Rattle.wire.proofs.Reading.{reading}
 use native.Mathlib.Omega.{arith}
 use borrow.Author.Rules.{rules}
 use Prim.Native.Nat.{◌+◌, ◌*◌}
-use Rattle.request.proofs.IssuerSteps.{issuers_deep, issuers_past, issuers_says, issuers_test, issuers_all, issuers_any, issuers_not, issuers_exists}
+use Rattle.request.proofs.IssuerSteps.{issuers_deep, issuers_past, issuers_says, issuers_test, issuers_all_law, issuers_any, issuers_not, issuers_exists}
 use Rattle.request.proofs.IssuerSteps.{issuers_nothing, issuers_none, issuers_more}
 
 abbrev μ-node : Measures 3 node-kinds.ps ℕ
@@ -83,7 +83,7 @@ pub +node-parts-spec : {M : Type 1} → statement M
     (λ c. omega arith)
     (λ c. search (issuers_says, reading, rules))
     (λ c. search (issuers_test, reading, rules))
-    (λ c. let h = rw c.before.byte_or.ensures.0 at c.parts.ensures in search (issuers_all, reading, rules))
+    (λ c. let h = rw c.before.byte_or.ensures.0 at c.parts.ensures in search (issuers_all_law, reading, rules))
     (λ c. let h = rw c.before.byte-or2.ensures.0 at c.parts2.ensures in search (issuers_any, reading, rules))
     (λ c. search (issuers_not, reading, rules))
     (λ c. search (issuers_exists, reading, rules))

@@ -7,7 +7,7 @@ use lib.ListN.{take}
 use Rattle.wire.proofs.Reading.{via}
 use Rattle.model.specs.Lists.{any}
 use Rattle.withdrawals.specs.Sought.{named_at, Linked}
-use Rattle.withdrawals.proofs.Sought.{named_from, head_there, head_entry, chain_all, chain_end, entry_near, link_there, link_falls, chain_here, chain_on}
+use Rattle.withdrawals.proofs.Sought.{named_from, head_there, head_entry_law, chain_all, chain_end, entry_near, link_there, link_falls, chain_here, chain_on}
 use Rattle.withdrawals.proofs.left.is_named.Statement.{statement}
 use Rattle.withdrawals.proofs.left.is_named.Tie as tie
 
@@ -32,7 +32,7 @@ loop-holds c =
     let entry = c.before.before.before.before.before in
     let linked = entry.requires.0 in
     let head = c.head.ensures.0 in
-    ((linked.0, linked.1, head_entry linked.1 _ _ place.1 head), λ count L. chain_all L _ _ _ _ place.0 place.1 head)
+    ((linked.0, linked.1, head_entry_law linked.1 _ _ place.1 head), λ count L. chain_all L _ _ _ _ place.0 place.1 head)
 
 sub-names : tie.Need-overflow-sub-names invariant-loop decreases-loop
 sub-names c = search rules
