@@ -1,5 +1,5 @@
 # crates.txt to a picture for Graphviz: layers by the longest way from a crate that needs no other, arrows without those that follow from others.
-# crates.txt lists with a crate all that it depends on, near and far; the kit's own libraries (io, libc, os) are left out.
+# crates.txt lists with a crate what its files name, near and far; a word that is no crate there, as `staticlib`, is left out.
 
 /^#/ || NF == 0 { next }
 {

@@ -1,4 +1,4 @@
-//! No copy drifts: the header, the wrapper's declarations and the engine's `extern "C"` functions have the same functions with as many
+//! No copy drifts: the header, the wrapper's declarations and the `extern "C"` functions of engine_c have the same functions with as many
 //! parameters, and the same numbers under the same names; the version is one.
 use std::collections::BTreeMap;
 use std::path::PathBuf;
@@ -64,9 +64,9 @@ fn functions_are_the_same() {
             1
         }
     };
-    let engine = counts(functions(&read("crates/engine/src/lib.rt"), "pub extern \"C\" fn secpal_"), slice);
+    let engine = counts(functions(&read("crates/engine_c/src/lib.rt"), "pub extern \"C\" fn secpal_"), slice);
     assert_eq!(header, wrapper, "the header, and bindings/rust/src/raw.rs");
-    assert_eq!(header, engine, "the header, and crates/engine/src/lib.rt");
+    assert_eq!(header, engine, "the header, and crates/engine_c/src/lib.rt");
     assert!(header.len() >= 7);
 }
 

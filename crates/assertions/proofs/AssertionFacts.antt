@@ -1,24 +1,25 @@
 -- What the code finds of an assertion by the two tables is what the model says of it.
-use mathlib.Core.Path.{◌≡◌, refl, sym, ◌∙◌, ap, ap₂, subst}
+use mathlib.Core.Path.{◌≡◌, refl, sym, ◌∙◌, ap, subst}
 use mathlib.Core.Bool.{Bool, true, false, ◌&&◌}
 use mathlib.Core.Logic.{⊎_elim}
 use mathlib.Core.List.Memᴰ
 use mathlib.Core.List.{List, [], ◌∷◌, ◌++◌, map, map-append, append_assoc, Memᴰ}
-use Prim.Native.Nat.{ℕ, zero, suc, ◌+◌, ◌-◌, ◌*◌, ◌≤◌, ◌<◌}
+use Prim.Native.Nat.{ℕ, zero, suc, ◌+◌, ◌≤◌, ◌<◌}
 use native.Mathlib.Omega.{arith}
-use lib.Dec.{T, eqb, leb, ltb, eqb-suc-zero}
+use lib.Dec.{T, eqb, eqb-suc-zero}
 use lib.ListN.{length}
 use borrow.Author.Tests.{ltb-false}
 use Rattle.model.proofs.ListFacts.{each_of, each_in, and_of}
 use Rattle.model.proofs.ReadFacts.{levels_arity}
 use Rattle.wire.proofs.Reading.{choose_true, choose_false}
-use Rattle.model.specs.Limits.{principal, max_body, max_constraints}
+use Rattle.model.specs.Limits.{principal}
 use Rattle.model.specs.Lists.{all, each, among}
-use Rattle.model.specs.Syntax.{Expr, Fact, flat, can_say, Constraint, Assertion, Constant, Verb, vars_of, vars_in, vars_test}
-use Rattle.model.specs.Kinds.{Demands, kind_at, param_kinds, pair, places, demands_of, occurring, fitting, fits_assertion}
+use Rattle.model.specs.Syntax.{Expr, Fact, flat, can_say, Assertion, Constant, Verb, vars_of, vars_in, vars_test}
+use Rattle.model.specs.Kinds.{kind_at, param_kinds, pair, places, demands_of, occurring, fitting, fits_assertion}
 use Rattle.model.specs.Safety.{is_flat, safe_head, safe_assertion}
-use Rattle.model.specs.Bytes.{byte_at, u16_at, choose, both, Reading, got, refused, and_then}
-use Rattle.model.specs.Readings.{expr_at, constraints_at, levels_at, fact_at, fact_end, facts_at, facts_end, body_at, tests_at, assertion_read_at, assertion_end}
+use Rattle.model.specs.Bytes.{byte_at, u16_at, choose, both, got, refused}
+use Rattle.model.specs.Readings.{expr_at, levels_at, fact_at, fact_end, facts_end, body_at, tests_at, assertion_read_at}
+use Rattle.model.specs.Readings.{assertion_end}
 use Rattle.model.specs.Forms as forms
 use Rattle.model.specs.Forms.{ends, broken, no_verb, then_form, operators_form, fact_form, facts_form, tests_form, body_form, statement_form, assertion_form}
 use Rattle.model.specs.Policies.{judged, assertion_by, assertion_item}
@@ -27,17 +28,17 @@ use Rattle.kinds.specs.Cells.{Ask, feed, nothing}
 use Rattle.kinds.specs.Asks.{ask_place, ask_test, asks_for, Regular}
 use Rattle.kinds.proofs.Model.{fits, fits_low}
 use Rattle.phrases.specs.declared.Form.{Form}
-use Rattle.phrases.specs.declared.Form.TheVariants.{Ends, Broken, NoVerb}
+use Rattle.phrases.specs.declared.Form.TheVariants.{Ends, Broken}
 use Rattle.phrases.specs.Tables.{Tables}
-use Rattle.phrases.specs.Phrases.{fact_next, facts_next, fact_by, facts_by, code_form, then_by, fact_asks, facts_asks, tests_asks}
+use Rattle.phrases.specs.Phrases.{fact_next, facts_by, code_form, then_by}
 use Rattle.phrases.specs.Marks.{none, marked, within}
 use Rattle.phrases.proofs.Model as phrase
-use Rattle.phrases.proofs.Ends.{form-ends, forms-end, operators_regular}
+use Rattle.phrases.proofs.Ends.{form_ends, forms_end, operators_regular}
 use Rattle.phrases.proofs.Sets.{marked_append, within_is}
-use Rattle.slices.specs.declared.Step.{Step}
 use Rattle.slices.specs.declared.Step.TheVariants.{Next, Refused}
 use Rattle.slices.specs.Steps.{step}
-use Rattle.assertions.specs.Assertions.{tests_form_by, body_form_by, statement_form_by, assertion_form_by, tests_by, body_asks, statement_asks, fits_by, body_marks}
+use Rattle.assertions.specs.Assertions.{tests_form_by, body_form_by, statement_form_by, assertion_form_by, tests_by, body_asks, statement_asks, fits_by}
+use Rattle.assertions.specs.Assertions.{body_marks}
 use Rattle.assertions.specs.Assertions.{head_safe_by, tests_safe_by, safe_by, judged_by, item_by}
 use Rattle.model.proofs.ReaderEnds.{no_broken, then_ends}
 use Rattle.model.proofs.Tests.{true_T}
@@ -115,8 +116,8 @@ module _ (vs : List Verb) (s : List ℕ) where
       let t = tests_right (assertion_end s at) c.0 e c.2 in
       let w = ltb-false (length s) (assertion_end s at) a.0 in
       let m : at + 2 + 6 ≡ at + 8 = omega arith in
-      let i : b.0 ≡ fact_end vs s (at + 8) = sym (form-ends vs s (assertion_end s at) (at + 2 + 6) b.0 b.1) ∙ ap (fact_end vs s) m in
-      let j : c.0 ≡ facts_end vs (byte_at s b.0) s (b.0 + 1) = sym (forms-end vs s (assertion_end s at) (byte_at s b.0) (b.0 + 1) c.0 c.1) in
+      let i : b.0 ≡ fact_end vs s (at + 8) = sym (form_ends vs s (assertion_end s at) (at + 2 + 6) b.0 b.1) ∙ ap (fact_end vs s) m in
+      let j : c.0 ≡ facts_end vs (byte_at s b.0) s (b.0 + 1) = sym (forms_end vs s (assertion_end s at) (byte_at s b.0) (b.0 + 1) c.0 c.1) in
       let k : c.0 ≡ tests_at vs s at = j ∙ ap (λ (x : ℕ). facts_end vs (byte_at s x) s (x + 1)) i in
       record { end = t.0; within = omega arith; operators = subst (λ (x : ℕ). operators_form (byte_at s x) s (x + 1) ≡ true) k t.1 }
 
@@ -134,7 +135,14 @@ module _ {cs : List Constant} {vs : List Verb} {ks sg : List ℕ} (X : Tables cs
   asks_are : statement_asks ks sg s (at + 8) ≡ asks_for cs (demands_of vs stated)
   unfolding statement_asks body_asks tests_by assertion_read_at body_at tests_at
   asks_are =
-      rw (phrase.next_is X s (at + 8), phrase.nexts_are X _ s _, phrase.fact_asks_law X s (at + 8), phrase.facts_asks_law X s _ _, phrase.tests_asks_law X s _ _)
+      rw (
+        phrase.next_is X s (at + 8),
+        phrase.nexts_are X _ s _,
+        phrase.fact_asks_law X s
+            (at + 8),
+        phrase.facts_asks_law X s _ _,
+        phrase.tests_asks_law X s _ _,
+      )
       (sym (ap (λ (l : List Ask). l ++ each stated.tests (ask_test cs))
       (map-append (ask_place cs) (places vs stated.head) (each stated.body (places vs)))
       ∙ append_assoc (map (ask_place cs) (places vs stated.head)) (map (ask_place cs) (each stated.body (places vs))) (each stated.tests (ask_test cs))))
@@ -179,7 +187,8 @@ placed vs (can_say e d f) v a m =
 
 -- "In a flat head every variable .. In a nested head the outermost speaker .."
 head_levels : (vs : List Verb) (s : List ℕ) (m p : ℕ) (ins : List ℕ) → ((v : ℕ) → Memᴰ v (vars_in (levels_at vs m s p)) → v < 8)
-    → choose (eqb m 0) (within 8 (marked (vars_in (levels_at vs m s p)) none) (marked ins none)) (within 8 (marked (vars_of (expr_at s p)) none) (marked ins none))
+    → choose (eqb m 0) (within 8 (marked (vars_in (levels_at vs m s p)) none) (marked ins none))
+    (within 8 (marked (vars_of (expr_at s p)) none) (marked ins none))
     ≡ safe_head (levels_at vs m s p) ins
 unfolding levels_at
 head_levels vs s zero p ins low = choose_true _ _ refl ∙ within_is (vars_in (levels_at vs 0 s p)) ins low

@@ -1,13 +1,12 @@
 -- The table and the years in closed form are the calendar's, from 2000 to 2100.
 use mathlib.Core.Path.{◌≡◌, refl, sym, ap, subst, ◌∙◌}
 use mathlib.Core.Bool.{Bool, true, false, cond, ◌&&◌, not, true≢false}
-use mathlib.Core.List.{List, [], ◌∷◌}
 use Prim.Native.Nat.{ℕ, zero, suc, ◌+◌, ◌*◌, ◌-◌, ◌/◌, ◌%◌, ◌≤◌, ◌<◌}
 use native.Mathlib.Nat.{not-suc-le-zero}
 use native.Mathlib.Decide.{ℕ_discrete}
 use native.Mathlib.Omega.{arith}
-use lib.Dec.{eqb, ltb}
-use borrow.Author.Tests.{eq-eqb, ne_eqb, eqb-true, eqb-false, lt-ltb, le-ltb}
+use lib.Dec.{eqb}
+use borrow.Author.Tests.{eq-eqb, ne_eqb, lt-ltb, le-ltb}
 use Rattle.model.specs.Calendar.{leap_year, year_days, month_days, Date, date, date_of, days_of_years, days_of_months, day_of, one_year_after, year_after}
 use Rattle.model.specs.Years.{IsDate}
 use Rattle.model.proofs.CalendarFacts.{months, twelve, forth}
@@ -117,13 +116,15 @@ year_found n h = go (4 * n / 1461) (omega arith) (omega arith) (omega arith) (�
     go : (k : ℕ) → k ≤ 99 → 1461 * k ≤ 4 * n → 4 * n < 1461 * k + 1461 → Dec (k % 4 ≡ 0) → InYear n k
     go k few a b (yes z) =
         let closed = years_closed k (omega (arith, few)) in
-        let days : year_days (2000 + k) ≡ 366 = year_days_law (2000 + k) ∙ ap (λ (b : Bool). 365 + more b) (fourth k (omega (arith, few)) ∙ eq-eqb (k % 4) 0 z) in
+        let days : year_days (2000 + k) ≡ 366 = year_days_law (2000 + k) ∙ ap (λ (b : Bool). 365 + more b)
+        (fourth k (omega (arith, few)) ∙ eq-eqb (k % 4) 0 z) in
         let q = quarters k z in
         let parts : k ≡ 4 * (k / 4) = omega (arith, z) in
         (omega (arith, closed, q, parts, a), omega (arith, closed, q, parts, days, b), few)
     go k few a b (no z) =
         let closed = years_closed k (omega (arith, few)) in
-        let days : year_days (2000 + k) ≡ 365 = year_days_law (2000 + k) ∙ ap (λ (b : Bool). 365 + more b) (fourth k (omega (arith, few)) ∙ ne_eqb (k % 4) 0 z) in
+        let days : year_days (2000 + k) ≡ 365 = year_days_law (2000 + k) ∙ ap (λ (b : Bool). 365 + more b)
+        (fourth k (omega (arith, few)) ∙ ne_eqb (k % 4) 0 z) in
         let q = begun k z in
         let least : 4 * (k / 4) + 1 ≤ k = omega (arith, z) in
         let most : k ≤ 4 * (k / 4) + 3 = omega arith in

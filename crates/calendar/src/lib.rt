@@ -1,4 +1,6 @@
 // The calendar: a day number to its date and back, by a table of the days before each month, and the day one year after.
+#![tactic(auto)]
+
 ghost use Rattle.std.specs.Prelude.{◌≡◌, ℕ, ◌+◌, ◌-◌, ◌≤◌, ◌<◌};
 ghost use Rattle.model.specs.Limits.{max_day};
 ghost use Rattle.model.specs.Calendar.{leap_year, year_days, month_days, date_of, days_of_years, days_of_months, day_of, one_year_after, year_after};
@@ -6,7 +8,7 @@ ghost use Rattle.model.specs.Years.{IsDate};
 ghost use Rattle.calendar.specs.Dates.{date_in};
 
 // Years, months and days as they are written: from 2000, from 1 and from 1.
-#[derive(Drop)]
+#[derive(Clone, Copy)]
 pub struct Date {
     pub year: u32,
     pub month: u32,

@@ -48,7 +48,8 @@ refusal_rows =
     ∷ (call (policy (statement works (may_order otto) (can_say (two 3) 0 (is_fitter otto) ∷ []) ∷ [])) Q 160 8, refuses 5 1 63 160 8)
     ∷ (call (policy (statement works (may_order otto) (can_say north 2 (is_fitter otto) ∷ []) ∷ [])) Q 160 8, refuses 3 1 63 160 8)
     ∷ (
-      call (policy (statement works (may_order otto) (can_say north 0 (can_say north 0 (can_say north 0 (can_say north 0 (is_fitter otto)))) ∷ []) ∷ [])) Q 160 8,
+      call (policy (statement works (may_order otto) (can_say north 0 (can_say north 0 (can_say north 0 (can_say north 0 (is_fitter otto)))) ∷ []) ∷ [])) Q
+          160 8,
       refuses 3 1 63 160 8,
     )
     -- a verb number past the verbs ends the reading of its item: 5 whatever follows, 3 where the item ends before it or passes the end

@@ -1,12 +1,10 @@
 -- The reach's marks in a lent slice are the model's, and a refusal leaves the slice.
-use mathlib.Core.Path.{◌≡◌, refl, sym, ap, ap₂, subst, ◌∙◌}
-use mathlib.Core.Bool.{Bool, cond}
-use mathlib.Core.List.{List, [], ◌∷◌, ◌++◌, map, Memᴰ}
-use Prim.Native.Nat.{ℕ, zero, suc, ◌+◌, ◌≤◌, ◌<◌}
+use mathlib.Core.Path.{◌≡◌, refl, sym, ap, ap₂, ◌∙◌}
+use mathlib.Core.List.{List, [], ◌∷◌, ◌++◌}
+use Prim.Native.Nat.{ℕ, zero, suc, ◌+◌, ◌<◌}
 use native.Mathlib.Numerals.{add-one}
 use native.Mathlib.Omega.{arith}
-use lib.ListN.{length, get_or, set, take, drop, length-map}
-use Rattle.model.specs.Lists.{member}
+use lib.ListN.{length, get_or, set, take, drop}
 use Rattle.model.specs.Syntax.{Read}
 use Rattle.model.specs.Bytes.{byte_at, bytes_at}
 use Rattle.model.specs.Decision.{Slices, Taken, refused_on, read_slices}

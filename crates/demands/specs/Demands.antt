@@ -171,7 +171,8 @@ InsidersSay = Insiders
 
 -- with withdrawals the report is that of the same call without entries, on a policy that differs in its assertions alone, these being what is left
 abbrev pub WithdrawnCall : Type 0
-WithdrawnCall = (l : Lent) (other : List ℕ) (R : Read) (L : Policy) (ρ ρ' : Report) → Call l ρ → Call (with_withdrawals without_entries (with_policy other l)) ρ'
+WithdrawnCall =
+    (l : Lent) (other : List ℕ) (R : Read) (L : Policy) (ρ ρ' : Report) → Call l ρ → Call (with_withdrawals without_entries (with_policy other l)) ρ'
     → Inputs l.slices R → ReadAs other L → L ≡ with_assertions (left_in R) R.policy → ρ' ≡ ρ
 
 -- without entries nothing is withdrawn: the slice is accepted, and all of the policy's assertions are left

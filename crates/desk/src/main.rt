@@ -1,11 +1,15 @@
 // The release desk's program: decides request.bin under policy.bin and prints one line.
-ghost use Rattle.std.specs.Prelude.{◌≡◌, ◌≤◌, length, take, replicate};
+#![tactic(auto)]
+
+ghost use Rattle.std.specs.Prelude.{◌≡◌, ◌≤◌, length, take, replicate, true};
 ghost use Rattle.model.specs.Decision.{lent, decision};
 ghost use Rattle.model.specs.Inputs.{without_entries};
 ghost use Rattle.outcome.specs.Line.{line_of};
-ghost use Rattle.io.specs.Counts.{IsPrefixLen};
+ghost use Rattle.desk.specs.Counts.{IsPrefixLen};
 
-use libc::STDOUT_FILENO;
+use std::io::Read;
+use std::rt::Files;
+use std::{fs, io};
 
 // "lends 65,536 bytes for facts and 1,024 for answers"
 const FACTS: usize = 65536;
@@ -15,31 +19,37 @@ const ANSWERS: usize = 1024;
 // ---- files: no contract can say what is read
 
 // How many bytes one read put into a buffer, and whether it failed.
-#[derive(Drop)]
+#[derive(Clone, Copy)]
 struct Got {
     failed: bool,
     more: usize,
 }
 
-fn read_once(file: i32, to: &mut [u8]) -> Got
-    ensures { result.more ≤ length to.new }
+fn read_once(file: &mut impl Read, to: &mut [u8]) -> Got
+    ensures within { result.more ≤ length to.new }
+    ensures none { result.failed ≡ true → result.more ≡ 0 }
 {
-    let got = libc::read(file, to);
-    Got {
-        failed: got < 0,
-        more: io::count(got, to),
+    match file.read(to) {
+        Ok(more) => Got {
+            failed: false,
+            more,
+        },
+        Err(_) => Got {
+            failed: true,
+            more: 0,
+        },
     }
 }
 
 // The first bytes of an open file, as many as fit; none if a read fails, be it halfway.
-fn read_whole(file: i32, to: &mut [u8]) -> usize
+fn read_whole(file: &mut impl Read, to: &mut [u8]) -> usize
     ensures { IsPrefixLen result to.new }
 {
     let mut n = 0;
     while n < to.len() {
         let got = read_once(file, &mut to[n..]);
         if got.failed {
-            return io::count(0, to);
+            return 0;
         }
         if got.more == 0 {
             return n;
@@ -50,16 +60,13 @@ fn read_whole(file: i32, to: &mut [u8]) -> usize
 }
 
 // "reads the first 65,536 bytes at most .. a file that cannot be read counts as empty"
-fn load(path: &[u8], to: &mut [u8]) -> usize
+fn load(files: &impl Files, path: &str, to: &mut [u8]) -> usize
     ensures { IsPrefixLen result to.new }
 {
-    let file = os::open_read(path);
-    if file < 0 {
-        return io::count(0, to);
+    match fs::open(files, path) {
+        Ok(mut file) => read_whole(&mut file, to),
+        Err(_) => 0,
     }
-    let n = read_whole(file, to);
-    libc::close(file);
-    n
 }
 
 // ---- the line
@@ -78,12 +85,70 @@ fn answer(policy: &[u8], request: &[u8], text: &mut [u8; 96]) -> usize
     outcome::line(o, text)
 }
 
-fn main() {
-    let mut policy = io::large_buffer();
-    let mut request = io::large_buffer();
-    let p = load(b"policy.bin", &mut policy);
-    let r = load(b"request.bin", &mut request);
+fn main(rt: HostRuntime) -> io::Result<()> {
+    let mut policy = [0u8; 65536];
+    let mut request = [0u8; 65536];
+    let p = load(&rt, "policy.bin", &mut policy);
+    let r = load(&rt, "request.bin", &mut request);
     let mut text = [0u8; 96];
     let n = answer(&policy[..p], &request[..r], &mut text);
-    io::write_all(STDOUT_FILENO, &text[..n]);
+    rt.write_all(&text[..n])
+}
+
+#[cfg(test)]
+mod tests {
+    use super::*;
+    use std::io::ErrorKind;
+
+    // A file of `left` bytes of 7, which gives 3 at most in one read; behind them a read fails, or says that this is the end.
+    #[derive(Drop)]
+    struct Scripted {
+        left: usize,
+        fails: bool,
+    }
+
+    impl Read for Scripted {
+        fn read(&mut self, buf: &mut [u8]) -> io::Result<usize> {
+            if self.left == 0 && self.fails {
+                return Err(io::Error::from(ErrorKind::Other));
+            }
+            let n = buf.len().min(self.left).min(3);
+            for byte in buf[..n].iter_mut() {
+                *byte = 7;
+            }
+            self.left -= n;
+            Ok(n)
+        }
+    }
+
+    #[test]
+    fn a_file_is_read_to_its_end(rt: HostRuntime) {
+        let mut to = [0u8; 8];
+        let mut file = Scripted {
+            left: 5,
+            fails: false,
+        };
+        assert_eq!(rt; read_whole(&mut file, &mut to), 5);
+        assert_eq!(rt; to, [7, 7, 7, 7, 7, 0, 0, 0]);
+    }
+
+    #[test]
+    fn a_file_that_fails_halfway_counts_as_empty(rt: HostRuntime) {
+        let mut to = [0u8; 8];
+        let mut file = Scripted {
+            left: 5,
+            fails: true,
+        };
+        assert_eq!(rt; read_whole(&mut file, &mut to), 0);
+    }
+
+    #[test]
+    fn a_longer_file_is_cut(rt: HostRuntime) {
+        let mut to = [0u8; 8];
+        let mut file = Scripted {
+            left: 20,
+            fails: true,
+        };
+        assert_eq!(rt; read_whole(&mut file, &mut to), 8);
+    }
 }

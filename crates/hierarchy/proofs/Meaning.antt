@@ -1,6 +1,6 @@
 -- What the code reads of the hierarchy by the tables of kinds and signatures is what the model reads by the constants and verbs.
-use mathlib.Core.Path.{◌≡◌, refl, sym, ◌∙◌, ap, ap₂}
-use mathlib.Core.Bool.{Bool, true, false, ◌&&◌, not}
+use mathlib.Core.Path.{◌≡◌, refl, sym, ◌∙◌, ap}
+use mathlib.Core.Bool.{Bool, true, false, ◌&&◌}
 use mathlib.Core.List.{List, [], ◌∷◌, ◌++◌}
 use Prim.Native.Nat.{ℕ, zero, suc, ◌+◌, ◌-◌, ◌*◌, ◌≤◌, ◌<◌}
 use native.Mathlib.Decide.{ℕ_discrete, dec_lt}
@@ -11,7 +11,7 @@ use borrow.Author.Tests.{lt-ltb, le-ltb, le-leb, lt-leb, eq-eqb, ne_eqb}
 use Rattle.wire.proofs.Reading.{choose_true, choose_false}
 use Rattle.model.specs.Limits.{max_links, link_bytes, version, length_at, header_bytes}
 use Rattle.model.specs.Syntax.{Link, Constant, Verb}
-use Rattle.model.specs.Kinds.{kind_at, param_kinds, kind_of_link, fits_link}
+use Rattle.model.specs.Kinds.{kind_at, param_kinds, fits_link}
 use Rattle.model.specs.Bytes.{byte_at, u16_at, choose, both, Reading, got, refused, and_then}
 use Rattle.model.specs.Readings.{arity_of}
 use Rattle.model.specs.Policies.{Item, contents, version_there, length_right, headed, ended, items_from, list_at}
@@ -111,7 +111,8 @@ module _ {cs : List Constant} {vs : List Verb} {ks sg : List ℕ} (X : Tables cs
             X.kinds (u16_at s (at + 2)),
             X.kinds (u16_at s (at + 4)),
           )
-          (last (eqb (kind_at cs (u16_at s (at + 2))) (get_or (param_kinds vs v) (p - 1) 0)) (eqb (kind_at cs (u16_at s (at + 4))) (get_or (param_kinds vs v) (p - 1) 0)))
+          (last (eqb (kind_at cs (u16_at s (at + 2))) (get_or (param_kinds vs v) (p - 1) 0))
+          (eqb (kind_at cs (u16_at s (at + 4))) (get_or (param_kinds vs v) (p - 1) 0)))
         where
           last : (a b : Bool) → choose a b false ≡ a && b
           last true b = refl
@@ -151,7 +152,8 @@ module _ {cs : List Constant} {vs : List Verb} {ks sg : List ℕ} (X : Tables cs
   entries_are (suc n) is at = ap (λ (t : Step). then_step t (entries_by ks sg s n)) (entry_is at (contents is))
       ∙ go (link_item cs vs s (contents is) at) (λ x e. entries_are n (is ++ record { at = at; of = x } ∷ []) e)
     where
-      go : (r : Reading Link) → ((x : Link) (e : ℕ) → entries_by ks sg s n e ≡ step (items_from (link_item cs vs s) n (is ++ record { at = at; of = x } ∷ []) e))
+      go : (r : Reading Link) → ((x : Link) (e : ℕ) → entries_by ks sg s n e ≡ step
+          (items_from (link_item cs vs s) n (is ++ record { at = at; of = x } ∷ []) e))
           → then_step (step r) (entries_by ks sg s n) ≡ step (and_then r (λ x e. items_from (link_item cs vs s) n (is ++ record { at = at; of = x } ∷ []) e))
       go (got x e) h = h x e
       go (refused m p) h = refl

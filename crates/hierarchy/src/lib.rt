@@ -1,4 +1,6 @@
 // The reader of the hierarchy (request 05). An entry has 6 bytes and no length: verb, position, parent and child.
+#![tactic(auto)]
+
 ghost use Rattle.std.specs.Prelude.{◌≡◌, List, ℕ, ◌+◌, ◌*◌, ◌≤◌, length};
 ghost use Rattle.model.specs.Limits.{max_links};
 ghost use Rattle.model.specs.Syntax.{Constant, Verb};
@@ -29,7 +31,7 @@ const ROW: usize = 4;
 const FIRST: usize = HEADER + 2;
 
 // What the reader hands out: how many entries there are, or why the slice is refused.
-#[derive(Drop)]
+#[derive(Clone, Copy)]
 pub struct Hierarchy {
     // 0: accepted
     pub refusal: u8,
@@ -206,7 +208,7 @@ pub fn read(kinds: &[u8], signatures: &[u8], hierarchy: &[u8]) -> Hierarchy
 // ---- what an accepted hierarchy says
 
 // An entry's numbers.
-#[derive(Drop)]
+#[derive(Clone, Copy)]
 pub struct Numbers {
     pub verb: u16,
     pub position: u16,

@@ -13,7 +13,7 @@ use Rattle.model.specs.Policies.{Accepted, policy_of, read_policy}
 use Rattle.model.specs.Nodes.{read_request}
 use Rattle.model.specs.Entries.{read_withdrawals, read_hierarchy}
 use Rattle.model.specs.Deciding.{read}
-use Rattle.model.specs.Decision.{Slices, Lent, slices, Taken, accepted, refused_on, sided, read_slices, untouched, decision_of, decision}
+use Rattle.model.specs.Decision.{Lent, slices, Taken, accepted, refused_on, sided, read_slices, untouched, decision_of, decision}
 use Rattle.model.specs.Inputs.{Inputs}
 use Rattle.model.proofs.DecisionFacts.{of_slices, on_policy}
 use Rattle.demands.specs.Demands.{Call}
@@ -27,9 +27,8 @@ use Rattle.policy.specs.declared.Answer.TheVariants as answered
 use Rattle.program.proofs.Accepted.{accepted_known}
 use Rattle.program.proofs.Ready.{accepted_by}
 use Rattle.request.specs.Requests as requests
-use Rattle.request.specs.declared.Request.{Request}
-use Rattle.inputs.specs.Handed.{handed_out, after_withdrawals, after_request, after_policy}
-use Rattle.inputs.specs.Accepts.{Takes, Withdraws, Hands}
+use Rattle.inputs.specs.Handed.{handed_out, after_policy}
+use Rattle.inputs.specs.Accepts.{Hands}
 use Rattle.inputs.specs.declared.Handed.{Handed}
 
 -- ---- an accepted policy's tables, in the words of the reader's index
@@ -77,7 +76,12 @@ module _ (P : Policy) where
   unfolding sided handed_out requests.handed_out
   tells (refused n p) yw yh k l m = record { all = some_number of_request (λ t. t) k; none = λ z. refl; side = λ z. (omega arith, omega arith) }
   tells (got q e) (refused n p) yh k l m = record { all = some_number of_withdrawals (λ t. t) l; none = λ z. refl; side = λ z. (omega arith, omega arith) }
-  tells (got q e) (got ws f) (refused n p) k l m = record { all = some_number of_hierarchy (λ t. t) m; none = λ z. refl; side = λ z. (omega arith, omega arith) }
+  tells (got q e) (got ws f) (refused n p) k l m = record {
+    all = some_number of_hierarchy (λ t. t) m;
+    none = λ z. refl;
+    side = λ z.
+        (omega arith, omega arith);
+  }
   tells (got q e) (got ws f) (got H g) k l m = record {
     all = λ z. record {
       q = q;

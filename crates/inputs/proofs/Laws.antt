@@ -8,18 +8,16 @@ use Rattle.model.specs.Lists.{member}
 use Rattle.model.specs.Syntax as syntax
 use Rattle.model.specs.Syntax.{Policy, Verb, Withdrawal, Link}
 use Rattle.model.specs.Bytes.{Reading, got, refused}
-use Rattle.model.specs.Nodes.{read_request}
-use Rattle.model.specs.Entries.{read_withdrawals, read_hierarchy}
 use Rattle.model.specs.Deciding.{read}
-use Rattle.model.specs.Decision.{Taken, accepted, refused_on, sided}
-use Rattle.demands.proofs.Numbers.{RefusesBy, of_request, of_withdrawals, of_hierarchy, request_numbers, withdrawals_numbers, hierarchy_numbers}
+use Rattle.model.specs.Decision.{Taken, accepted, sided}
+use Rattle.demands.proofs.Numbers.{RefusesBy, of_request, of_withdrawals, of_hierarchy}
 use Rattle.request.specs.Requests as requests
 use Rattle.request.specs.declared.Request.{Request}
 use Rattle.withdrawals.specs.Reading as withdrawals
 use Rattle.withdrawals.specs.declared.Withdrawals.{Withdrawals}
 use Rattle.hierarchy.specs.Reading as hierarchy
 use Rattle.hierarchy.specs.declared.Hierarchy.{Hierarchy}
-use Rattle.inputs.specs.Handed.{handed_out, after_withdrawals, after_request, after_policy}
+use Rattle.inputs.specs.Handed.{handed_out, after_withdrawals, after_request}
 use Rattle.inputs.specs.declared.Handed.{Handed}
 
 -- a refusal's number and place

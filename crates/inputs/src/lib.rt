@@ -1,4 +1,6 @@
 // The slices after the policy, read one after the other: what their readers hand out, or the first refusal with its side.
+#![tactic(auto)]
+
 ghost use Rattle.std.specs.Prelude.{◌≡◌, List, ℕ, ◌≤◌, length};
 ghost use Rattle.model.specs.Syntax as syntax;
 ghost use Rattle.model.specs.Bytes.{got};
@@ -17,7 +19,7 @@ const WITHDRAWALS: u8 = 3;
 const HIERARCHY: u8 = 4;
 
 // What the slices say that a decision goes by: the request as its reader hands it out, and how many entries the others have.
-#[derive(Drop)]
+#[derive(Clone, Copy)]
 pub struct Handed {
     // 0: all are accepted
     pub refusal: u8,

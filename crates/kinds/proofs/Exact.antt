@@ -209,7 +209,8 @@ settled_exact t G a b A B la lb ne =
     (λ (m : 11 < a). rw (choose_true (good (relabel 8 t a b)) _ (lt-ltb 11 a m)) (joined t G a b ne A (λ _ x. omega arith) (λ _. k) B))
     (λ (m : a ≤ 11). rw (choose_false (good (relabel 8 t a b)) _ (le-ltb 11 a m)) (by_lt 11 b
     (λ (n : 11 < b). rw (choose_true (good (relabel 8 t b a)) _ (lt-ltb 11 b n))
-    (said t _ (λ κ. cell_kind κ b ≡ cell_kind κ a) _ (λ κ K s q. sym q) (λ κ K s q. sym q) (joined t G b a (λ e. ne (sym e)) B (λ _ x. omega arith) (λ _. h) A)))
+    (said t _ (λ κ. cell_kind κ b ≡ cell_kind κ a) _ (λ κ K s q. sym q) (λ κ K s q. sym q)
+    (joined t G b a (λ e. ne (sym e)) B (λ _ x. omega arith) (λ _. h) A)))
     (λ (n : b ≤ 11). rw (choose_false (good (relabel 8 t b a)) (bad t) (le-ltb 11 b n))
     (failed t _ (λ κ K s q. apart t a b A B la lb (omega arith) ne (λ x. absurd (omega arith)) κ s q)))))))))
 

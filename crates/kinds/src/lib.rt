@@ -1,4 +1,6 @@
 // The kinds of the eight variables of an assertion or a request, as far as they are settled.
+#![tactic(auto)]
+
 ghost use Rattle.std.specs.Prelude.{◌≡◌, ◌<◌, ◌≤◌};
 ghost use Rattle.kinds.specs.Cells.{relabel, cell_of, settled, merged, counted, alike, numbered};
 
@@ -19,7 +21,7 @@ pub const NO_FIT: u8 = ANY_PRINCIPAL + 4;
 const OPEN_NUMBER: u8 = NO_FIT;
 
 // Whether what was asked fits, and the variables' cells after it.
-#[derive(Drop)]
+#[derive(Clone, Copy)]
 pub struct Fit {
     pub of: [u8; VARIABLES],
     pub ok: bool,

@@ -1,4 +1,6 @@
 // Labels: the one place of the code that says which are alike, and into which bucket one falls.
+#![tactic(auto)]
+
 ghost use Rattle.std.specs.Prelude.{◌≡◌, ◌+◌, ◌<◌, ◌≤◌, eqb, length};
 ghost use Rattle.model.specs.Bytes.{bytes_at};
 ghost use Rattle.model.specs.Readings.{has_label};

@@ -1,4 +1,6 @@
 // The specification's limits, widths and fixed numbers, each under one name. Readers, answers and engine take them from here.
+#![tactic(auto)]
+
 ghost use Rattle.std.specs.Prelude.{◌≡◌};
 ghost use Rattle.limits.specs.All.{all};
 

@@ -3,7 +3,7 @@ use mathlib.Core.Path.{◌≡◌, refl, sym, ap, ap₂, subst, ◌∙◌}
 use mathlib.Core.Logic.{⊎_elim}
 use mathlib.Core.Bool.{Bool, true, false, not, ◌&&◌}
 use mathlib.Core.List.Memᴰ
-use mathlib.Core.List.{List, [], ◌∷◌, ◌++◌, map, Memᴰ}
+use mathlib.Core.List.{List, [], ◌∷◌, ◌++◌, Memᴰ}
 use Prim.Native.Nat.{ℕ, zero, suc, ◌+◌, ◌-◌, ◌*◌, ◌≤◌, ◌<◌}
 use native.Mathlib.Decide.{dec_lt}
 use native.Mathlib.Omega.{arith}
@@ -12,14 +12,13 @@ use lib.ListN.{length, get_or, take, length-map, length-append}
 use borrow.Author.Tests.{lt-ltb, eqb-true}
 use Rattle.model.specs.Limits.{max_constants, max_verbs, policy_versions}
 use Rattle.model.specs.Syntax.{Constant, Verb}
-use Rattle.model.specs.Kinds.{no_constant, kind_at}
+use Rattle.model.specs.Kinds.{no_constant}
 use Rattle.model.specs.Values.{alike}
 use Rattle.model.specs.Bytes.{byte_at, u16_at, bytes_at, choose, Reading, got, refused}
 use Rattle.model.specs.Readings.{item_end, has_label, constant_read_at}
-use Rattle.model.specs.Forms.{constant_form, verb_form}
 use Rattle.model.specs.Policies.{Item, contents, offsets, items_from, list_at, constant_item, verb_item, Accepted, assertions_from, verbs_from, constants_from}
 use Rattle.model.specs.Policies.{computed_policy, read_policy}
-use Rattle.model.proofs.ReadFacts.{never, choose_yes, choose_no, and_then_got, headed_got, ended_got}
+use Rattle.model.proofs.ReadFacts.{choose_yes, choose_no, and_then_got, headed_got, ended_got}
 use Rattle.model.proofs.PolicyReader.{policy_is}
 use Rattle.wire.proofs.Reading.{choose_true, choose_false}
 use Rattle.policy.specs.declared.Index.{Index}

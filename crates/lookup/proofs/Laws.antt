@@ -83,7 +83,8 @@ first_same f g i (suc n) h =
 all_bytes_law : (l : List ℕ) → bytes_at (length l) l 0 ≡ l
 all_bytes_law l =
     ext_get_or 0 (bytes_at (length l) l 0) l (bytes_length (length l) l 0)
-    (λ i h. let k : i < length l = rw (bytes_length (length l) l 0) at h in let e : 0 + i ≡ i = omega arith in bytes_at_law (length l) l 0 i k ∙ ap (byte_at l) e)
+    (λ i h. let k : i < length l = rw (bytes_length (length l) l 0) at h in let e : 0 + i ≡ i = omega arith in bytes_at_law (length l) l 0 i k ∙ ap
+    (byte_at l) e)
 
 -- the n bytes at p of the policy, beside a label
 module _ (s label : List ℕ) (p n m : ℕ) (d : m ≡ n) where

@@ -1,4 +1,6 @@
 // Look-ups for a host in the bytes of a policy: where its constants and verbs stand, and the number of the constant that has a label.
+#![tactic(auto)]
+
 ghost use Rattle.std.specs.Prelude.{◌≡◌, ℕ, ◌+◌, ◌-◌, min, ◌≤◌, ◌<◌, length, get_or, take};
 ghost use Rattle.model.specs.Bytes.{byte_at, bytes_at};
 ghost use Rattle.model.specs.Values.{alike};

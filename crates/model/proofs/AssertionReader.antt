@@ -2,7 +2,7 @@
 use mathlib.Core.Path.{◌≡◌, refl, sym, ap, ◌∙◌}
 use mathlib.Core.List.{List, [], ◌∷◌}
 use mathlib.Core.Bool.{Bool, true, false, ◌&&◌}
-use Prim.Native.Nat.{ℕ, zero, suc, ◌+◌, ◌-◌, ◌*◌, ◌<◌, ◌≤◌}
+use Prim.Native.Nat.{ℕ, zero, suc, ◌+◌, ◌*◌, ◌<◌, ◌≤◌}
 use native.Mathlib.Decide.{dec_lt}
 use native.Mathlib.Omega.{arith}
 use lib.Dec.{eqb, ltb, leb}
@@ -12,7 +12,7 @@ use Rattle.model.specs.Syntax.{Expr, Fact, Constraint, Assertion, Verb}
 use Rattle.model.specs.Bytes.{byte_at, u16_at, u32_at, choose, both, Reading, got, refused, and_then}
 use Rattle.model.specs.Readings.{expr_at, constraint_at, constraints_at, fact_at, fact_end, facts_at, facts_end}
 use Rattle.model.specs.Forms.{ends, broken, then_form, fact_form, facts_form, operator_form, operators_form, tests_form, body_form, statement_form}
-use Rattle.model.specs.Reader.{item, times, u16, u32, byte_in}
+use Rattle.model.specs.Reader.{times, u16, u32, byte_in}
 use Rattle.model.specs.Layout.{expr, constraint, fact, assertion}
 use Rattle.model.proofs.ReaderLaws.{then_in, then_out, then_choose, then_then, choose_true, choose_false, u16_in, u16_out, u32_in, u32_out}
 use Rattle.model.proofs.ReaderLaws.{byte_in_is, byte_in_out, upto_then, upto_in, upto_out}
@@ -47,7 +47,8 @@ module _ (s : List ℕ) (at e : ℕ) where
       ∙ ap (λ (b : Bool). choose b (after p (byte_at s p) (p + 1)) (refused 3 at)) (sym (both_and (leb 1 (byte_at s p)) (leb (byte_at s p) max_operator)))
 
   pub constraint_in : (p : ℕ) → p + 5 ≤ e → constraint s at e p ≡ choose (operator_form s p) (got (constraint_at s p) (p + 5)) (refused 3 at)
-  constraint_in p h = constraint_there p (omega arith) ∙ ap (λ (t : Reading Constraint). choose (operator_form s p) t (refused 3 at)) (after_in (byte_at s p) p h)
+  constraint_in p h = constraint_there p (omega arith) ∙ ap (λ (t : Reading Constraint). choose (operator_form s p) t (refused 3 at))
+      (after_in (byte_at s p) p h)
 
   pub constraint_out : (p : ℕ) → e < p + 5 → constraint s at e p ≡ refused 3 at
   unfolding constraint
@@ -115,7 +116,8 @@ module _ (s : List ℕ) (vs : List Verb) (at e : ℕ) where
     unfolding choose
     all_tests n p l = go (dec_lt e (p + 5 * n))
       where
-        fits : (b : Bool) → eqb (p + 5 * n) e ≡ b → (c : Bool) → times n (constraint s) at e p ≡ choose c (got (constraints_at n s p) (p + 5 * n)) (refused 3 at)
+        fits : (b : Bool) → eqb (p + 5 * n) e ≡ b → (c : Bool) → times n (constraint s) at e p ≡ choose c (got (constraints_at n s p) (p + 5 * n))
+            (refused 3 at)
             → and_then (times n (constraint s) at e p) (λ ts q. closing at e (k ts) q)
             ≡ as_reading at (choose b (choose c (ends e) broken) broken) (k (constraints_at n s p))
         fits true h true r = then_in _ r ∙ closing_yes at e (k (constraints_at n s p)) (p + 5 * n) (eqb-true (p + 5 * n) e h)
@@ -213,5 +215,6 @@ module _ (s : List ℕ) (vs : List Verb) (at e : ℕ) where
             body = fs;
             tests = ts;
           }) w) (body_form vs s e) (statement_at p)
-          (body_is (λ fs ts. record { serial = u32_at s p; issuer = u16_at s (p + 4); head = fact_at vs s (p + 6); body = fs; tests = ts }) (fact_end vs s (p + 6)))
+          (body_is (λ fs ts. record { serial = u32_at s p; issuer = u16_at s (p + 4); head = fact_at vs s (p + 6); body = fs; tests = ts })
+          (fact_end vs s (p + 6)))
           ∙ sym (as_skip at broken (then_form (fact_form vs s e (p + 6)) (body_form vs s e)) (statement_at p) (le-ltb e (p + 6) (omega arith)))

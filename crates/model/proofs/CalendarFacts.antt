@@ -1,13 +1,10 @@
 -- Dates and day numbers are inverse to each other: a month is walked day by day, a year month by month, and the years one after another, so each date is
 -- reached on the day that is its number.
 use mathlib.Core.Path.{◌≡◌, refl, sym, ap, subst, ◌∙◌}
-use mathlib.Core.Logic.{◌≢◌}
 use mathlib.Core.Bool.{Bool, true, false, cond}
 use Prim.Native.Nat.{ℕ, zero, suc, ◌+◌, ◌-◌, ◌≤◌, ◌<◌}
-use native.Mathlib.Nat.{not-suc-le-zero}
-use native.Mathlib.Decide.{ℕ_discrete, dec_lt}
+use native.Mathlib.Decide.{dec_lt}
 use native.Mathlib.Omega.{arith}
-use lib.Dec.{ltb}
 use borrow.Author.Tests.{lt-ltb, le-ltb}
 use Rattle.model.specs.Calendar.{leap_year, year_days, month_days, Date, date, next_date, date_of, days_of_years, days_of_months, day_of}
 use Rattle.model.specs.Years.{IsDate}

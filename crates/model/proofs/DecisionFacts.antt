@@ -1,6 +1,5 @@
 -- The decision on bytes: what it reports of an accepted policy and request, and where the answers stand.
 use mathlib.Core.Path.{◌≡◌, refl, sym, ap, subst, ◌∙◌}
-use mathlib.Core.Logic.{◌↔◌}
 use mathlib.Core.List.{List, [], ◌∷◌, ◌++◌, Memᴰ, append_assoc}
 use Prim.Native.Nat.{ℕ, zero, suc, ◌+◌, ◌*◌, ◌≤◌, ◌<◌, zero-le}
 use native.Mathlib.Nat.{not-suc-le-zero, le_of_suc-le-suc}
@@ -8,19 +7,18 @@ use native.Mathlib.Omega.{arith}
 use lib.ListN.{length, take, drop, get_or}
 use lib.Seq.{take_at, drop_at, drop-drop}
 use Rattle.model.specs.Limits.{answer_bytes}
-use Rattle.model.specs.Lists.{each, sorted}
+use Rattle.model.specs.Lists.{sorted}
 use Rattle.model.specs.Syntax.{Assertion, Withdrawal, Link, Policy, Request, Node, World, Read, world_in}
 use Rattle.model.specs.Rules.{Rule}
-use Rattle.model.specs.Records.{Entry, key_of, answer_of, answers_bytes}
-use Rattle.model.specs.Meant.{Outcome, too_many_facts, too_many_answers, decided}
+use Rattle.model.specs.Records.{key_of, answers_bytes}
+use Rattle.model.specs.Meant.{Outcome}
 use Rattle.model.specs.Rounds.{last_round}
 use Rattle.model.specs.Steps.{eq_said, step}
-use Rattle.model.specs.Deciding.{outcome, decide, read, counted_in}
+use Rattle.model.specs.Deciding.{decide, read, counted_in}
 use Rattle.model.specs.Bytes.{Reading, got, refused}
 use Rattle.model.specs.Policies.{Accepted, policy_of, read_policy}
-use Rattle.model.specs.Nodes.{read_request}
 use Rattle.model.specs.Decision.{Slices, Lent, Taken, accepted, refused_on, request_under, withdrawals_under, hierarchy_under, sided}
-use Rattle.model.specs.Decision.{read_slices, Report, capacity, room, reported, decision_of, decision}
+use Rattle.model.specs.Decision.{read_slices, capacity, room, reported, decision_of, decision}
 use Rattle.model.specs.Inputs.{ReadAs, AskedAs, WithdrawnAs, RankedAs, Inputs, InputsBySlice, answer_in}
 use Rattle.model.proofs.RoundFacts as S
 use Rattle.model.proofs.StepFacts.{eq_said_of, eq_said_refl, step_of, step_in}

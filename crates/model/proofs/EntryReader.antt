@@ -9,14 +9,14 @@ use lib.ListN.{length}
 use lib.Dec.{eqb, ltb, leb}
 use borrow.Author.Tests.{lt-ltb, le-ltb, le-leb, lt-leb}
 use Rattle.model.specs.Limits.{max_withdrawals, max_links, link_bytes, max_constraints, version, header_bytes}
-use Rattle.model.specs.Syntax.{Expr, Constraint, Withdrawal, Link, Constant, Verb, vars_withdrawal}
+use Rattle.model.specs.Syntax.{Expr, Withdrawal, Link, Constant, Verb, vars_withdrawal}
 use Rattle.model.specs.Kinds.{withdrawal_demands, fitting, fits_link}
-use Rattle.model.specs.Bytes.{byte_at, u16_at, u32_at, choose, Reading, got, refused, and_then}
+use Rattle.model.specs.Bytes.{byte_at, u32_at, choose, Reading, got, refused, and_then}
 use Rattle.model.specs.Readings.{expr_at, constraints_at}
 use Rattle.model.specs.Forms.{operators_form}
-use Rattle.model.specs.Policies.{contents, ended}
-use Rattle.model.specs.Reader.{times, byte, u16, u32, byte_in}
-use Rattle.model.specs.Layout.{expr, constraint, withdrawal, withdrawal_item, linked, link_item}
+use Rattle.model.specs.Policies.{contents}
+use Rattle.model.specs.Reader.{times, byte, u16, byte_in}
+use Rattle.model.specs.Layout.{constraint, withdrawal, withdrawal_item, linked, link_item}
 use Rattle.model.specs.Entries.{withdrawal_end, withdrawal_at, withdrawal_form, computed_withdrawals, read_withdrawals}
 use Rattle.model.specs.Entries.{link_at, link_judged, computed_hierarchy, read_hierarchy}
 use Rattle.model.specs.Entries as entries
@@ -76,7 +76,8 @@ module _ (s : List ℕ) (at : ℕ) where
       go (yes k) d = then_out _ (expr_out s at (length s) at k)
       go (no k) (yes l) = then_in _ (expr_in_law s at (length s) at (at + 2) refl (omega arith)) ∙ then_out _ (u32_out s at (length s) (at + 2) (omega arith))
       go (no k) (no l) =
-          then_in _ (expr_in_law s at (length s) at (at + 2) refl (omega arith)) ∙ then_in _ (u32_in s at (length s) (at + 2) (at + 6) (omega arith) (omega arith))
+          then_in _ (expr_in_law s at (length s) at (at + 2) refl (omega arith)) ∙ then_in _
+          (u32_in s at (length s) (at + 2) (at + 6) (omega arith) (omega arith))
           ∙ upto_out s at (length s) (from_tests (expr_at s at) (u32_at s (at + 2))) max_constraints (at + 6) (omega arith)
 
   -- an entry is read where its form is right

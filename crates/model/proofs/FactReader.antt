@@ -161,7 +161,8 @@ module _ (s : List ℕ) (vs : List Verb) (at e : ℕ) where
   unfolding fact fact_form fact_at
   fact_is p =
       upto_then s at e _ max_nest p
-      ∙ ap (λ (t : Reading (Fact Expr)). choose (leb e p) (refused 3 at) (choose (ltb max_nest (byte_at s p)) (refused 3 at) t)) (levels_is (byte_at s p) (p + 1))
+      ∙ ap (λ (t : Reading (Fact Expr)). choose (leb e p) (refused 3 at) (choose (ltb max_nest (byte_at s p)) (refused 3 at) t))
+      (levels_is (byte_at s p) (p + 1))
       ∙ sym (as_choose2 at (leb e p) (ltb max_nest (byte_at s p)) _ _)
 
   -- a fact, and what follows

@@ -1,22 +1,21 @@
 -- Each issuer in the reach says the same, in the same rounds, when assertions from outside it count too.
-use mathlib.Core.Path.{◌≡◌, refl, sym, ap, subst, ◌∙◌}
-use mathlib.Core.Logic.{◌↔◌, ◌⊎◌, inl, inr, ⊎_elim}
+use mathlib.Core.Path.{◌≡◌, refl, sym, subst}
+use mathlib.Core.Logic.{◌↔◌, inl, inr, ⊎_elim}
 use mathlib.Core.List.Memᴰ
 use mathlib.Core.List.{List, [], ◌∷◌, ◌++◌, map, Memᴰ}
 use Prim.Native.Nat.{ℕ, zero, suc, ◌<◌}
-use native.Mathlib.Omega.{arith}
-use lib.ListN.{length, get_or}
+use lib.ListN.{get_or}
 use lib.Dec.{T, eqb, eqb_refl}
 use Rattle.model.specs.Limits.{principal, unlimited, unbound}
 use Rattle.model.specs.Lists.{each}
-use Rattle.model.specs.Syntax.{Expr, con, var, today, Fact, flat, can_say, map_fact, subject, about, Constant, Verb, Assertion, Link, World, Said, said}
+use Rattle.model.specs.Syntax.{Expr, con, var, today, Fact, flat, can_say, map_fact, subject, about, Verb, Assertion, Link, World, Said, said}
 use Rattle.model.specs.Kinds.{kind_of, variables, places, pair, param_kinds}
 use Rattle.model.specs.Versions.{carries, names_actors}
-use Rattle.model.specs.Values.{bound, choices, bindings, bindings_of, kinds_of}
+use Rattle.model.specs.Values.{bound, choices, bindings_of, kinds_of}
 use Rattle.model.specs.Closure.{by, Within}
 use Rattle.model.specs.Hierarchy.{Covers, phrase, nested}
-use Rattle.model.specs.Rules.{Rule, cond, can_says, acts_as, covers, body_of}
-use Rattle.model.specs.Reach.{Joins, asks, names, Reach, named_by, joining}
+use Rattle.model.specs.Rules.{Rule, cond, can_says, acts_as, covers}
+use Rattle.model.specs.Reach.{names, Reach, named_by, joining}
 use Rattle.model.specs.Reached.{issued_in, reach, counting}
 use Rattle.model.specs.Inputs.{who}
 use Rattle.model.proofs.ListFacts.{if_in, member_in, keep_of, keep_in}

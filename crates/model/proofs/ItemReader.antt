@@ -19,7 +19,7 @@ use Rattle.model.specs.Forms.{Form, ends, broken, no_verb, label_byte, label_for
 use Rattle.model.specs.Forms.{signature_form, verb_form, statement_form, assertion_form}
 use Rattle.model.specs.Policies.{alike_constants, alike_verbs, judged, assertion_by}
 use Rattle.model.specs.Policies as policies
-use Rattle.model.specs.Reader.{◌>>=◌, ◌>>◌, Reader, pure, item, require, sized, times, byte, u16, u32, byte_in, rest}
+use Rattle.model.specs.Reader.{◌>>=◌, ◌>>◌, Reader, pure, require, sized, times, byte, u16, u32, byte_in, rest}
 use Rattle.model.specs.Layout.{label, constant, verb, assertion, constant_item, verb_item, assertion_item}
 use Rattle.model.proofs.ReaderLaws.{then_in, then_out, then_choose, then_then, choose_true, choose_false, byte_in_law, byte_out, u16_in, u16_out}
 use Rattle.model.proofs.ReaderLaws.{u32_in, u32_out, byte_in_is, byte_in_out, upto_in, upto_out}
@@ -129,7 +129,8 @@ module _ (s : List ℕ) (at e : ℕ) where
       ∙ then_choose (leb 1 n && leb n max_label && all label_byte (bytes_at n s p)) (got tt e) (refused 3 at) (λ (x : Unit {0}) q. got (bytes_at n s p) q)
       ∙ ap (λ (b : Bool). choose b (got (bytes_at n s p) e) (refused 3 at)) (sym (and3 (leb 1 n) (leb n max_label) (all label_byte (bytes_at n s p))))
 
-  kinds_in_law : (n p q : ℕ) → p + n ≡ q → q ≤ e → times n (byte_in s 1 quantity) at e p ≡ choose (all is_kind (bytes_at n s p)) (got (bytes_at n s p) q) (refused 3 at)
+  kinds_in_law : (n p q : ℕ) → p + n ≡ q → q ≤ e → times n (byte_in s 1 quantity) at e p ≡ choose (all is_kind (bytes_at n s p)) (got (bytes_at n s p) q)
+      (refused 3 at)
   unfolding times bytes_at choose
   kinds_in_law zero p q i h = ap (got []) (let k : p ≡ q = omega arith in k)
   kinds_in_law (suc n) p q i h = go (is_kind (byte_at s p)) (all is_kind (bytes_at n s (p + 1))) (byte_in_is s at e 1 quantity p (omega arith))
@@ -167,7 +168,8 @@ module _ {A : Type 0} (s : List ℕ) (r : Reader A) (at : ℕ) (b : Bool) (x : A
   unfolding item_there item_end both choose
   item_is f = go (dec_lt at (length s)) (dec_lt (length s) E)
     where
-      go : Dec (at < length s) → Dec (length s < E) → sized (byte s) r at (length s) at ≡ choose (both (item_there s at) b) (got x (item_end s at)) (refused 3 at)
+      go : Dec (at < length s) → Dec (length s < E) → sized (byte s) r at (length s) at ≡ choose (both (item_there s at) b) (got x (item_end s at))
+          (refused 3 at)
       go (no h) d = let k : length s ≤ at = omega arith in sized1_out s r at (length s) at k ∙ rw (le-ltb at (length s) k)
       go (yes h) (yes k) = sized1_past s r at (length s) at h k ∙ rw (lt-ltb at (length s) h, lt-leb E (length s) k)
       go (yes h) (no k) = let l : E ≤ length s = omega arith in sized1_in s r at (length s) at h l ∙ rw (lt-ltb at (length s) h, le-leb E (length s) l) (f h l)
@@ -337,7 +339,8 @@ module _ (s : List ℕ) (at : ℕ) where
   unfolding choose both
   arity_is_law m h = go (dec_lt (byte_at s at) (1 + m))
     where
-      fits : 1 + m ≤ byte_at s at → (b : Bool) → times m (byte_in s 1 quantity) at G (at + 2) ≡ choose b (got (bytes_at m s (at + 2)) (at + 2 + m)) (refused 3 at)
+      fits : 1 + m ≤ byte_at s at → (b : Bool) → times m (byte_in s 1 quantity) at G (at + 2) ≡ choose b (got (bytes_at m s (at + 2)) (at + 2 + m))
+          (refused 3 at)
           → after_arity m (at + 2) ≡ choose (choose b (label_form (byte_at s at - 1 - m) s (at + 2 + m)) false) (got (verb_of m) G) (refused 3 at)
       fits l true r = then_in _ r ∙ labels_is m (bytes_at m s (at + 2)) l
       fits l false r = then_out _ r

@@ -1,12 +1,11 @@
 -- Judging a node is asking whether it holds.
-use mathlib.Core.Path.{◌≡◌, refl}
-use mathlib.Core.Logic.{◌↔◌, ◌⊎◌, inl, inr, ⊎_elim}
-use mathlib.Core.List.{List, [], ◌∷◌, Memᴰ}
-use mathlib.Core.Bool.{Bool, true, false, ◌&&◌, ◌||◌, not}
+use mathlib.Core.Logic.{◌↔◌, inl, inr, ⊎_elim}
+use mathlib.Core.List.{List}
+use mathlib.Core.Bool.{Bool}
 use Prim.Native.Nat.{ℕ}
 use lib.ListN.{set}
 use lib.Dec.{T, T_not, not_T}
-use Rattle.model.proofs.ListFacts.{and_of, and_in, or_of, or_left, or_right, any_of_law, any_in, keep_of, keep_in}
+use Rattle.model.proofs.ListFacts.{and_of, and_in, or_of, or_left, or_right, any_of_law, any_in}
 use Rattle.model.specs.Syntax.{World, Said, Node, Nodes, says, test, all_of, any_of, non, exists, end, more}
 use Rattle.model.specs.Values.{of_kind}
 use Rattle.model.specs.Requests.{Holds, HoldAll, HoldAny}

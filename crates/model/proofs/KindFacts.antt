@@ -124,7 +124,8 @@ is_var_of v (con c) t = absurd t
 is_var_of v (var w) t = ap var (sym (eqb→eq v w t))
 is_var_of v today t = absurd t
 
-pub one_kind_law : (cs : List Constant) (κ : List ℕ) (ps : List (ℕ × Expr)) → T (all (in_place cs κ) ps) → (v : ℕ) → (¬ (kind_of ps v ≡ 0)) → get_or κ v 0 ≡ kind_of ps v
+pub one_kind_law : (cs : List Constant) (κ : List ℕ) (ps : List (ℕ × Expr)) → T (all (in_place cs κ) ps) → (v : ℕ) → (¬ (kind_of ps v ≡ 0))
+    → get_or κ v 0 ≡ kind_of ps v
 one_kind_law cs κ [] t v h = absurd (h refl)
 one_kind_law cs κ (p ∷ ps) t v h = go (is_var v p.1) refl (one_kind_law cs κ ps k.1 v) h
   where

@@ -1,13 +1,13 @@
 -- What an accepted hierarchy is sure to have: each entry fits. So a descendant is a constant of its place's kind, and what a ground fact covers is ground.
-use mathlib.Core.Path.{◌≡◌, refl, sym, ap, ap₂, subst, ◌∙◌}
+use mathlib.Core.Path.{◌≡◌, sym, ap, ap₂, subst, ◌∙◌}
 use mathlib.Core.Bool.{Bool, not, ◌&&◌}
 use mathlib.Core.List.{List, [], ◌∷◌, map, Memᴰ, cons≢nil, head-eq_of_cons-eq, tail-eq_of_cons-eq}
-use Prim.Native.Nat.{ℕ, suc, ◌+◌, ◌-◌, ◌<◌, ◌≤◌}
+use Prim.Native.Nat.{ℕ, suc, ◌+◌, ◌-◌, ◌≤◌}
 use native.Mathlib.Omega.{arith}
 use lib.ListN.{length, get_or}
 use lib.Dec.{T, eqb, leb, eqb→eq}
 use Rattle.model.specs.Limits.{can_act_as, version, header_bytes, max_links}
-use Rattle.model.specs.Syntax.{Fact, flat, can_say, Link, Constant, Verb}
+use Rattle.model.specs.Syntax.{Fact, Link, Constant, Verb}
 use Rattle.model.specs.Kinds.{kind_at, param_kinds, kind_of_link, fits_link}
 use Rattle.model.specs.Closure.{by}
 use Rattle.model.specs.Hierarchy.{link, child, onward, Below, Replaced, end, stays, falls, Covers, phrase, nested}

@@ -1,9 +1,9 @@
 -- What is in a computed list, and what a computed test says.
 use mathlib.Core.Path.{◌≡◌, refl, sym, ap, ap₂, subst, ◌∙◌}
-use mathlib.Core.Logic.{◌↔◌, ◌⊎◌, inl, inr, ⊎_elim}
+use mathlib.Core.Logic.{◌⊎◌, inl, inr, ⊎_elim}
 use mathlib.Core.List.{List, [], ◌∷◌, ◌++◌, map, Memᴰ}
-use mathlib.Core.Bool.{Bool, true, false, cond, ◌&&◌, ◌||◌, not}
-use Prim.Native.Nat.{ℕ, zero, suc, ◌≤◌, zero-le, suc-le-suc}
+use mathlib.Core.Bool.{Bool, true, false, cond, ◌&&◌, ◌||◌}
+use Prim.Native.Nat.{ℕ, suc, ◌≤◌, zero-le, suc-le-suc}
 use lib.ListN.{length}
 use lib.Dec.{T, eqb, eqb→eq, eqb_refl}
 use Rattle.model.specs.Lists.{only, keep, any, all, each, member, same_list}
@@ -120,8 +120,11 @@ member_in {n} m = any_in (eqb n) m (eqb_refl n)
 module _ {A : Type 0} where
   pub distinct_append : (xs ys : List A) → Distinct xs → Distinct ys → ((x : A) → Memᴰ x xs → ¬ Memᴰ x ys) → Distinct (xs ++ ys)
   distinct_append [] ys d e h = e
-  distinct_append (x ∷ xs) ys d e h =
-      (λ m. ⊎_elim d.0 (h x (mathlib.Core.List.Memᴰ.head refl)) (mathlib.Core.List.Memᴰ.append_cases xs m), distinct_append xs ys d.1 e (λ y m. h y (mathlib.Core.List.Memᴰ.tail m)))
+  distinct_append (x ∷ xs) ys d e h = (
+    λ m. ⊎_elim d.0 (h x (mathlib.Core.List.Memᴰ.head refl)) (mathlib.Core.List.Memᴰ.append_cases xs m),
+    distinct_append xs ys d.1 e
+        (λ y m. h y (mathlib.Core.List.Memᴰ.tail m)),
+  )
 
   without : {x : A} {ys : List A} → Memᴰ x ys → List A
   without (mathlib.Core.List.Memᴰ.head {xs = l} e) = l
@@ -135,14 +138,16 @@ module _ {A : Type 0} where
   in_without : {x z : A} {ys : List A} (m : Memᴰ x ys) → Memᴰ z ys → (z ≡ x → ⊥) → Memᴰ z (without m)
   unfolding without
   in_without (mathlib.Core.List.Memᴰ.head e) n h = ⊎_elim (λ q. absurd (h (q ∙ sym e))) (λ r. r) (mathlib.Core.List.Memᴰ.cases_cons n)
-  in_without (mathlib.Core.List.Memᴰ.tail m) n h = ⊎_elim mathlib.Core.List.Memᴰ.head (λ r. mathlib.Core.List.Memᴰ.tail (in_without m r h)) (mathlib.Core.List.Memᴰ.cases_cons n)
+  in_without (mathlib.Core.List.Memᴰ.tail m) n h = ⊎_elim mathlib.Core.List.Memᴰ.head (λ r. mathlib.Core.List.Memᴰ.tail (in_without m r h))
+      (mathlib.Core.List.Memᴰ.cases_cons n)
 
   -- a list without repetitions is no longer than one that has all of its elements
   pub pigeons : (xs ys : List A) → Distinct xs → ((x : A) → Memᴰ x xs → Memᴰ x ys) → length xs ≤ length ys
   pigeons [] ys d h = zero-le
   pigeons (x ∷ xs) ys d h =
       let m : Memᴰ x ys = h x (mathlib.Core.List.Memᴰ.head refl) in
-      rw (length_without m) (suc-le-suc (pigeons xs (without m) d.1 (λ z n. in_without m (h z (mathlib.Core.List.Memᴰ.tail n)) (λ e. d.0 (mathlib.Core.List.Memᴰ.cast (sym e) n)))))
+      rw (length_without m) (suc-le-suc (pigeons xs (without m) d.1
+      (λ z n. in_without m (h z (mathlib.Core.List.Memᴰ.tail n)) (λ e. d.0 (mathlib.Core.List.Memᴰ.cast (sym e) n)))))
 
 pub distinct_map : {A B : Type 0} (f : A → B) (l : List A) → Distinct (map f l) → Distinct l
 distinct_map f [] d = tt

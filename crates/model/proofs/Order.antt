@@ -1,13 +1,12 @@
 -- The order of the dictionary, and ascending lists: two with the same elements are the same list.
-use mathlib.Core.Path.{◌≡◌, refl, sym, ap, ap₂, subst, ◌∙◌}
-use mathlib.Core.Logic.{◌↔◌, ◌⊎◌, inl, inr, ⊎_elim}
+use mathlib.Core.Path.{◌≡◌, refl, sym, ap₂, subst, ◌∙◌}
+use mathlib.Core.Logic.{◌⊎◌, inl, inr, ⊎_elim}
 use mathlib.Core.List.Memᴰ
-use mathlib.Core.List.{List, [], ◌∷◌, ◌++◌, Memᴰ}
-use mathlib.Core.Bool.{Bool, true, false, cond, ◌&&◌, ◌||◌, not}
-use Prim.Native.Nat.{ℕ, zero, suc, ◌<◌, ◌≤◌}
-use native.Mathlib.Nat.{lt_irrefl, lt_trans}
+use mathlib.Core.List.{List, [], ◌∷◌, Memᴰ}
+use mathlib.Core.Bool.{Bool, true, false, cond, ◌&&◌, not}
+use Prim.Native.Nat.{ℕ, ◌<◌}
 use native.Mathlib.Omega.{arith}
-use lib.Dec.{T, T_not, eqb, eqb→eq, eqb_refl, ltb, ltb→lt, lt→ltb, nltb→le}
+use lib.Dec.{T, eqb, eqb→eq, ltb, ltb→lt, lt→ltb, nltb→le}
 use Rattle.model.specs.Lists.{before, insert, sorted}
 use Rattle.model.specs.Meant.{Distinct, Ascends}
 use Rattle.model.proofs.ListFacts.{and_of, and_in, or_of, or_left, or_right, eqb_in}

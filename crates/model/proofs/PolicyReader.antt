@@ -9,11 +9,11 @@ use lib.ListN.{length}
 use lib.Dec.{eqb, ltb, leb}
 use borrow.Author.Tests.{lt-ltb, le-ltb, le-leb, lt-leb}
 use Rattle.model.specs.Limits.{max_constants, max_verbs, max_assertions, policy_versions, length_at, header_bytes}
-use Rattle.model.specs.Bytes.{byte_at, u16_at, u32_at, choose, both, Reading, got, refused, and_then}
+use Rattle.model.specs.Bytes.{byte_at, u16_at, u32_at, choose, Reading, got, refused, and_then}
 use Rattle.model.specs.Policies.{Item, contents, headed, version_there, length_right, ended, items_from, list_at, Accepted, assertions_from}
 use Rattle.model.specs.Policies.{verbs_from, constants_from, computed_policy, read_policy}
 use Rattle.model.specs.Policies as policies
-use Rattle.model.specs.Reader.{Reader, byte, items, list}
+use Rattle.model.specs.Reader.{Reader, items, list}
 use Rattle.model.specs.Layout.{constant_item, verb_item, assertion_item, slice}
 use Rattle.model.proofs.ReaderLaws.{u16_in, u16_out}
 use Rattle.model.proofs.AssertionReader.{both_and}
@@ -57,7 +57,8 @@ module _ {A : Type 0} (s : List ℕ) (f : List A → Reader A) (g : List A → �
       L : ℕ → ℕ → Reading (List (Item A))
       L n q = items f n [] at (length s) q
 
-      counted : (b : Bool) → and_then (and_then (choose b (got tt (p + 2)) (refused 3 p)) (λ (x : Unit {0}) q. got n q)) L ≡ choose b (L n (p + 2)) (refused 3 p)
+      counted : (b : Bool) → and_then (and_then (choose b (got tt (p + 2)) (refused 3 p)) (λ (x : Unit {0}) q. got n q)) L ≡ choose b (L n (p + 2))
+          (refused 3 p)
       counted true = refl
       counted false = refl
 

@@ -1,6 +1,6 @@
 -- What an accepted policy is sure to have: each assertion fits, is safe, and has the parameters that its verbs ask for.
 use mathlib.Core.Path.{◌≡◌, refl, sym, ap, subst, ◌∙◌}
-use mathlib.Core.Logic.{◌⊎◌, ⊎_elim}
+use mathlib.Core.Logic.{⊎_elim}
 use mathlib.Core.List.Memᴰ
 use mathlib.Core.List.{List, [], ◌∷◌, ◌++◌, Memᴰ, map-append}
 use mathlib.Core.Bool.{Bool, true, false, not}

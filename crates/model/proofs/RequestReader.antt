@@ -2,7 +2,7 @@
 use mathlib.Core.Path.{◌≡◌, refl, sym, ap, ◌∙◌}
 use mathlib.Core.List.{List}
 use mathlib.Core.Bool.{Bool, true, false, ◌&&◌}
-use Prim.Native.Nat.{ℕ, zero, suc, ◌+◌, ◌-◌, ◌<◌, ◌≤◌}
+use Prim.Native.Nat.{ℕ, zero, suc, ◌+◌, ◌<◌, ◌≤◌}
 use native.Mathlib.Decide.{dec_lt}
 use native.Mathlib.Omega.{arith}
 use lib.ListN.{length, get_or-eq_default}
@@ -19,7 +19,7 @@ use Rattle.model.specs.Forms.{Form, ends, broken, no_verb, fact_form, operator_f
 use Rattle.model.specs.Policies.{ended}
 use Rattle.model.specs.Nodes.{parts_form, variable_form, check_parts, fitted, check_says, check_test, check_by, check_node, request_of, safely}
 use Rattle.model.specs.Nodes.{request_from, computed_request, read_request}
-use Rattle.model.specs.Reader.{◌>>=◌, ◌>>◌, Reader, pure, refuse, byte, u32, byte_in, list}
+use Rattle.model.specs.Reader.{◌>>=◌, Reader, pure, refuse, u32, byte_in}
 use Rattle.model.specs.Layout.{expr, fact, constraint, asking, parts, node}
 use Rattle.model.proofs.ReaderLaws.{then_in, then_out, then_choose, choose_true, byte_in_law, byte_out, u32_in, u32_out, byte_in_is, byte_in_out}
 use Rattle.model.proofs.FactReader.{as_reading, expr_in_law, expr_out, fact_is}
@@ -45,7 +45,8 @@ module _ {X : Type 0} where
   pick_is n a b c d e f g = go (eqb n 1) (eqb n 2) (eqb n 3) (eqb n 4) (eqb n 5) (eqb n 6)
     where
       go : (i j k l m o : Bool) → choose i a (choose j b (choose k c (choose l d (choose m e (choose o f g)))))
-          ≡ pick (choose i says_sort (choose j test_sort (choose k all_sort (choose l any_sort (choose m not_sort (choose o exists_sort no_sort)))))) a b c d e f g
+          ≡ pick (choose i says_sort (choose j test_sort (choose k all_sort (choose l any_sort (choose m not_sort (choose o exists_sort no_sort)))))) a b c d
+          e f g
       go true j k l m o = refl
       go false true k l m o = refl
       go false false true l m o = refl
@@ -157,7 +158,8 @@ module _ (cs : List Constant) (vs : List Verb) (s : List ℕ) where
             ap (λ (t : Reading ℕ). and_then t X) (byte_in_is s p (length s) 0 max_variable (p + 1) h)
             ∙ then_choose (leb 0 n && leb n max_variable) (got n (p + 1 + 1)) (refused 3 p) X
             ∙ rw (leb-zero n, m, lt-ltb (p + 1) (length s) h)
-        go (no h) = let l : length s ≤ p + 1 = omega arith in then_out _ (byte_in_out s p (length s) 0 max_variable (p + 1) l) ∙ rw (le-ltb (p + 1) (length s) l)
+        go (no h) = let l : length s ≤ p + 1 = omega arith in then_out _ (byte_in_out s p (length s) 0 max_variable (p + 1) l) ∙ rw
+            (le-ltb (p + 1) (length s) l)
 
   -- n parts, given that one is read alike
   abbrev pub NodeIs : ℕ → Type 0
@@ -216,12 +218,14 @@ module _ (cs : List Constant) (vs : List Verb) (s : List ℕ) where
         counted_is (λ n q. and_then (parts s cs vs (node s cs vs d) n D p (length s) q) (λ ns z. got (g ns) z)) p
         ∙ ap (λ (t : Reading Node). choose (parts_form s (p + 1)) t (refused 3 p))
         (ap (λ (t : Reading Nodes). and_then t (λ ns z. got (g ns) z)) (parts_is d one (byte_at s (p + 1)) D p (p + 2))
-        ∙ with_map (check_parts (check_node cs vs s d) (byte_at s (p + 1)) D (p + 2)) (nodes_by (node_at vs s d) (node_end vs s d) (byte_at s (p + 1)) (p + 2)) g)
+        ∙ with_map (check_parts (check_node cs vs s d) (byte_at s (p + 1)) D (p + 2))
+        (nodes_by (node_at vs s d) (node_end vs s d) (byte_at s (p + 1)) (p + 2)) g)
         ∙ sym (with_choose (parts_form s (p + 1)) (check_parts (check_node cs vs s d) (byte_at s (p + 1)) D (p + 2)) (refused 3 p)
         (g (nodes_by (node_at vs s d) (node_end vs s d) (byte_at s (p + 1)) (p + 2))))
 
     -- one node inside, read from q on
-    inner_is : (g : Node → Node) (q : ℕ) → and_then (node s cs vs d D p (length s) q) (λ n z. got (g n) z) ≡ with (check_node cs vs s d D q) (g (node_at vs s d q))
+    inner_is : (g : Node → Node) (q : ℕ) → and_then (node s cs vs d D p (length s) q) (λ n z. got (g n) z) ≡ with (check_node cs vs s d D q)
+        (g (node_at vs s d q))
     inner_is g q = ap (λ (t : Reading Node). and_then t (λ n z. got (g n) z)) (one D p q) ∙ with_map (check_node cs vs s d D q) (node_at vs s d q) g
 
     sort_is : (k : Sort) → pick k r1 r2 r3 r4 r5 r6 (refuse 3) p (length s) (p + 1)
@@ -303,14 +307,17 @@ module _ (cs : List Constant) (vs : List Verb) (s : List ℕ) where
       tested true = refl
       tested false = refl
 
-      go : Dec (length s < first_node_at) → Dec (max_day < t) → and_then (and_then (u32 s header_bytes (length s) header_bytes) day_test) from_node ≡ request_from cs vs s
+      go : Dec (length s < first_node_at) → Dec (max_day < t) → and_then
+          (and_then (u32 s header_bytes (length s) header_bytes) day_test) from_node ≡ request_from cs vs s
       go (yes h) d = ap (λ (r : Reading ℕ). and_then (and_then r day_test) from_node) (u32_out s header_bytes (length s) header_bytes h)
           ∙ rw (lt-ltb (length s) first_node_at h)
       go (no h) (yes k) = let l : first_node_at ≤ length s = omega arith in
-          ap (λ (r : Reading ℕ). and_then (and_then r day_test) from_node) (u32_in s header_bytes (length s) header_bytes first_node_at refl l) ∙ tested (leb t max_day)
+          ap (λ (r : Reading ℕ). and_then (and_then r day_test) from_node) (u32_in s header_bytes (length s) header_bytes first_node_at refl l) ∙ tested
+          (leb t max_day)
           ∙ rw (lt-leb t max_day k, le-ltb (length s) first_node_at l, lt-ltb max_day t k)
       go (no h) (no k) = let l : first_node_at ≤ length s = omega arith in let m : t ≤ max_day = omega arith in
-          ap (λ (r : Reading ℕ). and_then (and_then r day_test) from_node) (u32_in s header_bytes (length s) header_bytes first_node_at refl l) ∙ tested (leb t max_day)
+          ap (λ (r : Reading ℕ). and_then (and_then r day_test) from_node) (u32_in s header_bytes (length s) header_bytes first_node_at refl l) ∙ tested
+          (leb t max_day)
           ∙ choose_true (from_node t first_node_at) (refused 3 header_bytes) (le-leb t max_day m)
           ∙ nodes_is
           ∙ rw (le-ltb (length s) first_node_at l, le-ltb max_day t m)

@@ -189,7 +189,7 @@ turn_all (then_all {J = X} a r) = (X, a, r)
 
 abbrev TurnedAny : Nodes → List ℕ → List ℕ → Type 0
 TurnedAny end I O = ⊥
-TurnedAny (more n ns) I O = (X : List ℕ) × Safe I n X × ((ns ≡ end) × (X ≡ O)) ⊎ ((K : List ℕ) × SafeAny I ns K × (keep (λ v. member v K) X ≡ O))
+TurnedAny (more n ns) I O = (X : List ℕ) × Safe I n X × (((ns ≡ end) × (X ≡ O)) ⊎ ((K : List ℕ) × SafeAny I ns K × (keep (λ v. member v K) X ≡ O)))
 
 turn_any : {I O : List ℕ} {ns : Nodes} → SafeAny I ns O → TurnedAny ns I O
 turn_any (last_part {O = X} a) = (X, a, inl (refl, refl))

@@ -139,7 +139,8 @@ module _ (W : World) where
 
   step_bare : (𝒜 : List Assertion) (xs : List Said) → step W (bare 𝒜) xs ≡ step W 𝒜 xs
   step_bare 𝒜 xs =
-      ap (λ (l : List Said). l ++ (each xs (by_can_say W xs) ++ (each xs (by_act_as W xs) ++ each xs (by_hierarchy W)))) (each_bare (by_cond W xs) (λ a. refl) 𝒜)
+      ap (λ (l : List Said). l ++ (each xs (by_can_say W xs) ++ (each xs (by_act_as W xs) ++ each xs (by_hierarchy W))))
+      (each_bare (by_cond W xs) (λ a. refl) 𝒜)
 
   outcome_bare : (𝒜 : List Assertion) (n : Node) (c r : ℕ) → outcome W (bare 𝒜) n c r ≡ outcome W 𝒜 n c r
   outcome_bare 𝒜 n c r =

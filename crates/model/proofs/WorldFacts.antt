@@ -1,6 +1,6 @@
 -- What of a world is looked at: by a constraint its constants and its day, by who joins, by a request's issuers and by what is left no more than that.
-use mathlib.Core.Path.{◌≡◌, refl, sym, ap, ap₂}
-use mathlib.Core.List.{List, [], ◌∷◌, ◌++◌}
+use mathlib.Core.Path.{◌≡◌, refl, ap, ap₂}
+use mathlib.Core.List.{List, [], ◌++◌}
 use mathlib.Core.Bool.{◌&&◌, not}
 use Prim.Native.Nat.{ℕ}
 use lib.ListN.{get_or}

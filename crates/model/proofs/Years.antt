@@ -6,11 +6,11 @@ use mathlib.Core.Bool.{Bool, true, false, cond, true≢false, ◌&&◌}
 use Prim.Native.Nat.{ℕ, zero, suc, ◌+◌, ◌-◌, ◌≤◌, ◌<◌}
 use native.Mathlib.Decide.{ℕ_discrete, dec_lt}
 use native.Mathlib.Omega.{arith}
-use mathlib.Core.List.{[]}
 use lib.Dec.{eqb, leb}
 use borrow.Author.Tests.{eqb-true, le-leb}
 use Rattle.model.specs.Limits.{max_day}
-use Rattle.model.specs.Calendar.{leap_year, year_days, month_days, Date, date, date_of, days_of_years, days_of_months, day_of, is_leap_day, one_year_after, year_after}
+use Rattle.model.specs.Calendar.{leap_year, year_days, month_days, Date, date, date_of, days_of_years, days_of_months, day_of, is_leap_day, one_year_after}
+use Rattle.model.specs.Calendar.{year_after}
 use Rattle.model.specs.Years.{IsDate, DatesAreDays, SameDate, LeapBetween, YearLength, PermitYear}
 use Rattle.model.proofs.CalendarFacts.{months, forth, dated, year_on}
 use Rattle.model.proofs.DaysOfYear.{more, both, year_days_law, not_both, After, Placed, sort, on_leap_day, there, placed}

@@ -1,5 +1,5 @@
 -- "A permit year by the calendar": the Gregorian calendar, in which day 0 is 1 January 2000.
-use Rattle.std.specs.Prelude.{Bool, cond, ◌&&◌, ◌||◌, not, List, [], ◌∷◌, ℕ, zero, suc, ◌+◌, ◌-◌, ◌%◌, get_or, eqb, ltb}
+use Rattle.std.specs.Prelude.{Bool, cond, ◌&&◌, ◌||◌, not, [], ◌∷◌, ℕ, zero, suc, ◌+◌, ◌-◌, ◌%◌, get_or, eqb, ltb}
 
 -- every fourth year is a leap year, but of those that end a century only every fourth
 abbrev pub leap_year : ℕ → Bool

@@ -2,11 +2,11 @@
 use Rattle.std.specs.Prelude.{ℕ, ◌-◌, ◌/◌, min, List, [], ◌∷◌, ◌++◌, length, replicate}
 use Rattle.model.specs.Limits.{record_bytes, max_records, answer_bytes}
 use Rattle.model.specs.Syntax.{Policy, Request, Withdrawal, Link, Read}
-use Rattle.model.specs.Records.{Entry, records_of, last_round, answers_bytes}
+use Rattle.model.specs.Records.{records_of, last_round, answers_bytes}
 use Rattle.model.specs.Meant.{Outcome, too_many_facts, too_many_answers, decided}
 use Rattle.model.specs.Deciding.{decide}
 use Rattle.model.specs.Bytes.{Reading, got, refused}
-use Rattle.model.specs.Layout.{Accepted, policy_of, read_policy, read_request, read_withdrawals, read_hierarchy}
+use Rattle.model.specs.Layout.{policy_of, read_policy, read_request, read_withdrawals, read_hierarchy}
 
 -- "Bytes of every sort as policy and request", and each slice that a later request adds: the slices that are read
 pub record Slices : Type 0 where

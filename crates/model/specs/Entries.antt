@@ -4,7 +4,7 @@ use Rattle.std.specs.Prelude.{ℕ, ◌+◌, ◌*◌, List, Bool, false, length, 
 use Rattle.model.specs.Limits.{max_withdrawals, max_links, link_bytes, max_constraints, version, header_bytes}
 use Rattle.model.specs.Syntax.{Withdrawal, Link, Constant, Verb, vars_withdrawal}
 use Rattle.model.specs.Kinds.{withdrawal_demands, fitting, fits_link}
-use Rattle.model.specs.Bytes.{byte_at, u16_at, u32_at, choose, both, Reading, got, refused, and_then}
+use Rattle.model.specs.Bytes.{byte_at, u16_at, u32_at, choose, Reading, got, refused, and_then}
 use Rattle.model.specs.Readings.{expr_at, constraints_at}
 use Rattle.model.specs.Forms.{operators_form}
 use Rattle.model.specs.Policies.{contents, headed, list_at, ended}

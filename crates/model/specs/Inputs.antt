@@ -14,7 +14,7 @@ use Rattle.model.specs.Records.{Entry}
 use Rattle.model.specs.Meant.{Outcome, Derivable, FirstIn, Satisfies, Meant}
 use Rattle.model.specs.Deciding.{counted_in}
 use Rattle.model.specs.Bytes.{got}
-use Rattle.model.specs.Layout.{Accepted, policy_of, node, read_policy, read_request, read_withdrawals, read_hierarchy}
+use Rattle.model.specs.Layout.{Accepted, policy_of, read_policy, read_request, read_withdrawals, read_hierarchy}
 use Rattle.model.specs.Decision.{Slices, accepted, read_slices}
 
 -- ---- accepted. "Accepted: no refusal from the input stands against it."

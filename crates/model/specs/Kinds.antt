@@ -1,5 +1,5 @@
 -- The kinds of expressions. "A variable has one kind throughout its assertion or request."
-use Rattle.std.specs.Prelude.{List, [], ◌∷◌, ◌++◌, map, Bool, true, false, cond, ◌&&◌, ◌||◌, not, ℕ, zero, suc, ◌-◌, length, get_or, eqb, ltb, leb}
+use Rattle.std.specs.Prelude.{List, [], ◌∷◌, ◌++◌, map, Bool, false, cond, ◌&&◌, ◌||◌, not, ℕ, zero, suc, ◌-◌, length, get_or, eqb, ltb, leb}
 use Rattle.model.specs.Limits.{principal, thing, day, quantity, can_act_as}
 use Rattle.model.specs.Lists.{any, all, each, member, product}
 use Rattle.model.specs.Syntax.{Expr, con, var, today, Fact, flat, can_say, Constraint, Assertion, Withdrawal, Link, Constant, Verb, vars_of, vars_test}

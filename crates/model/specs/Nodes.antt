@@ -1,11 +1,12 @@
 -- Computed: the request reader by offsets, node by node, as the code goes (`proofs/RequestReader`: it is `Layout.read_request` for every byte list).
 use Rattle.std.specs.Prelude.{ℕ, zero, suc, ◌+◌, List, Bool, length, ltb, leb}
 use Rattle.model.specs.Limits.{max_day, max_parts, max_depth, max_variable, version, header_bytes, first_node_at}
-use Rattle.model.specs.Syntax.{Constant, Verb, Node, Request}
+use Rattle.model.specs.Syntax.{Constant, Verb, Request}
 use Rattle.model.specs.Kinds.{Demands, no_demands, joined, says_demands, test_demands, fitting}
 use Rattle.model.specs.Safety.{safe_request}
 use Rattle.model.specs.Bytes.{byte_at, u32_at, choose, both, Reading, got, refused, and_then}
-use Rattle.model.specs.Readings.{expr_at, fact_at, constraint_at, Sort, says_sort, test_sort, all_sort, any_sort, not_sort, exists_sort, no_sort, sort_of, node_at}
+use Rattle.model.specs.Readings.{expr_at, fact_at, constraint_at, Sort, says_sort, test_sort, all_sort, any_sort, not_sort, exists_sort, no_sort, sort_of}
+use Rattle.model.specs.Readings.{node_at}
 use Rattle.model.specs.Forms.{Form, ends, broken, no_verb, fact_form, operator_form}
 use Rattle.model.specs.Policies.{headed, ended}
 unfoldable pub use Rattle.model.specs.Layout.{read_request}

@@ -2,7 +2,7 @@
 use Rattle.std.specs.Prelude.{ℕ, zero, suc, ◌+◌, ◌-◌, List, [], ◌∷◌, ◌++◌, map, Bool, ◌&&◌, length, eqb, ltb, leb}
 use Rattle.model.specs.Limits.{max_constants, max_verbs, max_assertions, policy_versions, length_at, header_bytes}
 use Rattle.model.specs.Lists.{any}
-use Rattle.model.specs.Syntax.{Assertion, Constant, Verb, Policy}
+use Rattle.model.specs.Syntax.{Assertion, Constant, Verb}
 use Rattle.model.specs.Kinds.{fits_assertion}
 use Rattle.model.specs.Values.{alike, same_value}
 use Rattle.model.specs.Safety.{safe_assertion}

@@ -1,9 +1,9 @@
 -- What a request asks: its issuers, its free variables, and which bindings satisfy it (document 01, "Request bytes and decision").
 use Rattle.std.specs.Prelude.{◌⊎◌, cond, ℕ, set, T}
-use mathlib.Core.List.{List, [], ◌∷◌, ◌++◌, map, Memᴰ}
+use mathlib.Core.List.{List, [], ◌++◌, map, Memᴰ}
 use Rattle.model.specs.Limits.{unlimited}
 use Rattle.model.specs.Lists.{member, without}
-use Rattle.model.specs.Syntax.{Expr, Fact, map_fact, World, Said, said, Node, Nodes, says, test, all_of, any_of, non, exists, end, more, vars_of, vars_in}
+use Rattle.model.specs.Syntax.{map_fact, World, Said, said, Node, Nodes, says, test, all_of, any_of, non, exists, end, more, vars_of, vars_in}
 use Rattle.model.specs.Syntax.{vars_test}
 use Rattle.model.specs.Kinds.{demands_in, kind_of, variables}
 use Rattle.model.specs.Values.{bound, passes, of_kind, bindings}

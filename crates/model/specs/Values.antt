@@ -1,5 +1,5 @@
 -- Bindings, values and constraints.
-use Rattle.std.specs.Prelude.{List, [], ◌∷◌, ◌++◌, map, Bool, true, false, cond, ◌&&◌, not, ℕ, zero, suc, ◌+◌, get_or, eqb, leb}
+use Rattle.std.specs.Prelude.{List, [], ◌∷◌, ◌++◌, map, Bool, false, cond, ◌&&◌, not, ℕ, zero, suc, ◌+◌, get_or, eqb, leb}
 use Rattle.model.specs.Limits.{day, max_day, unbound}
 use Rattle.model.specs.Lists.{only, same_list, front, product}
 use Rattle.model.specs.Syntax.{Expr, con, var, today, Constraint, Assertion, Constant, World}

@@ -1,5 +1,5 @@
 -- What is proved of the calendar.
-use Rattle.std.specs.Prelude.{◌≡◌, ◌↔◌, ◌⊎◌, Bool, true, false, ℕ, suc, ◌+◌, ◌≤◌, ◌<◌}
+use Rattle.std.specs.Prelude.{◌≡◌, ◌↔◌, ◌⊎◌, true, false, ℕ, suc, ◌+◌, ◌≤◌, ◌<◌}
 use Rattle.model.specs.Limits.{max_day}
 use Rattle.model.specs.Values.{within_year}
 use Rattle.model.specs.Calendar.{month_days, Date, date, date_of, day_of, is_leap_day, one_year_after, year_after}

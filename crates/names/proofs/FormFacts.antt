@@ -6,9 +6,9 @@ use Prim.Native.Nat.{ℕ, ◌+◌, ◌-◌, ◌≤◌}
 use native.Mathlib.Omega.{arith}
 use lib.Dec.{eqb, leb, ltb}
 use lib.ListN.{length}
-use borrow.Author.Tests.{leb-true, ltb-true, eqb-true, eq-eqb, ne_eqb}
-use Rattle.wire.proofs.Reading.{both_first, both-second, choose_true, choose_false, and_yes, and_no}
-use Rattle.model.specs.Bytes.{byte_at, u32_at, bytes_at, choose, both}
+use borrow.Author.Tests.{leb-true, eqb-true, eq-eqb, ne_eqb}
+use Rattle.wire.proofs.Reading.{both_first, both_second, choose_false, and_yes, and_no}
+use Rattle.model.specs.Bytes.{byte_at, u32_at, bytes_at, choose}
 use Rattle.model.specs.Values.{alike}
 use Rattle.model.specs.Readings.{item_end, has_label, constant_read_at, verb_at}
 use Rattle.model.specs.Forms.{label_form, item_there, number_form, value_form, constant_form, signature_form, verb_form}
@@ -17,7 +17,7 @@ use Rattle.model.specs.Policies.{alike_constants, alike_verbs}
 module _ (s : List ℕ) (at : ℕ) where
   pub there_within : item_there s at ≡ true → item_end s at ≤ length s
   unfolding item_there
-  there_within h = leb-true (item_end s at) (length s) (both-second (ltb at (length s)) _ h)
+  there_within h = leb-true (item_end s at) (length s) (both_second (ltb at (length s)) _ h)
 
   pub constant_within : constant_form s at ≡ true → item_end s at ≤ length s
   unfolding constant_form
@@ -25,12 +25,12 @@ module _ (s : List ℕ) (at : ℕ) where
 
   pub constant_two : constant_form s at ≡ true → 2 ≤ byte_at s at
   unfolding constant_form
-  constant_two h = leb-true 2 (byte_at s at) (both_first _ (value_form s at) (both-second (item_there s at) _ h))
+  constant_two h = leb-true 2 (byte_at s at) (both_first _ (value_form s at) (both_second (item_there s at) _ h))
 
   pub number_five : constant_form s at ≡ true → has_label (byte_at s (at + 1)) ≡ false → byte_at s at ≡ 5
   unfolding constant_form value_form
   number_five h k =
-      let v = both-second (leb 2 (byte_at s at)) _ (both-second (item_there s at) _ h) in
+      let v = both_second (leb 2 (byte_at s at)) _ (both_second (item_there s at) _ h) in
       eqb-true (byte_at s at) 5 (both_first _ (number_form s at) (sym (choose_false _ _ k) ∙ v))
 
   pub verb_within : verb_form s at ≡ true → item_end s at ≤ length s
@@ -41,9 +41,9 @@ module _ (s : List ℕ) (at : ℕ) where
   pub verb_label : verb_form s at ≡ true → 2 + byte_at s (at + 1) ≤ byte_at s at
   unfolding verb_form signature_form label_form
   verb_label h =
-      let g = both-second (leb 1 (byte_at s at)) _ (both-second (item_there s at) _ h) in
-      let l = both-second (leb (1 + byte_at s (at + 1)) (byte_at s at)) _ (both-second _ _ g) in
-      let n = leb-true 1 (byte_at s at - 1 - byte_at s (at + 1)) (both_first _ _ (both-second _ _ l)) in
+      let g = both_second (leb 1 (byte_at s at)) _ (both_second (item_there s at) _ h) in
+      let l = both_second (leb (1 + byte_at s (at + 1)) (byte_at s at)) _ (both_second _ _ g) in
+      let n = leb-true 1 (byte_at s at - 1 - byte_at s (at + 1)) (both_first _ _ (both_second _ _ l)) in
       omega arith
 
 -- ---- "alike in kind and value"
@@ -68,7 +68,8 @@ module _ (s : List ℕ) (q p : ℕ) where
   kinds_differ h = and_no _ _ false (ne_eqb _ _ h) refl
 
   pub alike_labels_law : (z : Bool) → byte_at s (q + 1) ≡ byte_at s (p + 1) → has_label (byte_at s (q + 1)) ≡ true
-      → z ≡ alike (bytes_at (byte_at s q - 1) s (q + 2)) (bytes_at (byte_at s p - 1) s (p + 2)) → z ≡ alike_constants (constant_read_at s q) (constant_read_at s p)
+      → z ≡ alike (bytes_at (byte_at s q - 1) s (q + 2)) (bytes_at (byte_at s p - 1) s (p + 2)) → z ≡ alike_constants (constant_read_at s q)
+      (constant_read_at s p)
   unfolding constant_read_at
   alike_labels_law z e k h =
       and_yes (eqb (byte_at s (q + 1)) (byte_at s (p + 1))) _ z (eq-eqb _ _ e)

@@ -1,22 +1,18 @@
 -- The readers of constants and verbs read what stands at an offset.
-use mathlib.Core.Path.{◌≡◌, refl, sym, ◌∙◌, ap}
+use mathlib.Core.Path.{◌≡◌, refl, ap}
 use mathlib.Core.Bool.{Bool, true, false}
 use mathlib.Core.List.{List}
-use Prim.Native.Nat.{ℕ, ◌+◌, ◌≤◌}
-use lib.Dec.{T}
-use lib.ListN.{length}
-use Rattle.model.specs.Bytes.{byte_at, choose, Reading, got, refused}
-use Rattle.model.specs.Lists.{any}
+use Prim.Native.Nat.{ℕ}
+use Rattle.model.specs.Bytes.{choose, got, refused}
 use Rattle.model.specs.Syntax.{Constant, Verb}
 use Rattle.model.specs.Readings.{item_end, constant_read_at, verb_at}
 use Rattle.model.specs.Forms.{constant_form, verb_form}
-use Rattle.model.specs.Policies.{alike_constants, alike_verbs, constant_item, verb_item}
+use Rattle.model.specs.Policies.{constant_item, verb_item}
 use Rattle.model.proofs.ReadFacts.{choose_yes, choose_no}
-use Rattle.slices.specs.declared.Step.{Step}
 use Rattle.slices.specs.declared.Step.TheVariants.{Next, Refused}
 use Rattle.slices.specs.Steps.{step}
 use Rattle.names.proofs.FormFacts.{constant_within, verb_within}
-use Rattle.slices.proofs.ListFacts.{Reads, T_true, step_yes, step_no, item_end_law}
+use Rattle.slices.proofs.ListFacts.{Reads, T_true, step_yes, step_no}
 
 -- an item that is read: of right form, not alike, what stands at its offset
 module _ {A : Type 0} (form alike : Bool) (v x : A) (at f e : ℕ) where

@@ -1,12 +1,11 @@
 -- A walk along one chain finds an item that is alike exactly if there is one among all items before: items that are alike fall into one bucket.
 use mathlib.Core.Path.{◌≡◌, refl, sym, ap, subst, ◌∙◌}
-use mathlib.Core.Bool.{Bool, true, false, ◌||◌, true≢false}
+use mathlib.Core.Bool.{Bool, true, false, ◌||◌}
 use mathlib.Core.List.{List, [], ◌∷◌, ◌++◌, map}
 use Prim.Native.Nat.{ℕ, zero, suc, ◌+◌, ◌-◌, ◌%◌, ◌≤◌, ◌<◌}
-use native.Mathlib.Numerals.{add-one, sub-one}
+use native.Mathlib.Numerals.{add-one}
 use native.Mathlib.Decide.{ℕ_discrete}
 use native.Mathlib.Omega.{arith}
-use lib.Dec.{eqb}
 use lib.ListN.{length, get_or, set, replicate, length-set, length-map, length-replicate}
 use lib.Seq.{get_or-set_same, get_or-set_other}
 use borrow.Author.Tests.{eqb-true}
@@ -19,12 +18,12 @@ use Rattle.model.specs.Forms.{constant_form, verb_form}
 use Rattle.model.specs.Policies.{Item, contents, alike_constants, alike_verbs, constant_item, verb_item}
 use Rattle.labels.specs.Hash.{buckets, hash_of}
 use Rattle.labels.proofs.Laws.{alike_hash, hash_small}
-use Rattle.chains.specs.Chains.{walk, Chained, linked, numbers_of}
+use Rattle.chains.specs.Chains.{walk, Chained, linked}
 use Rattle.chains.proofs.Laws.{walk_end, walk_step, nothing, more}
 use Rattle.chains.proofs.Walks.{Numbered, walked_any}
 use Rattle.slices.specs.Items.{items_at}
 use Rattle.slices.specs.declared.Step.{Step}
-use Rattle.slices.specs.declared.Step.TheVariants.{Next, Refused}
+use Rattle.slices.specs.declared.Step.TheVariants.{Next}
 use Rattle.slices.specs.Steps.{step}
 use Rattle.names.specs.Seeking.{constant_bucket, verb_bucket, newest, Listed, Walkable}
 use Rattle.slices.proofs.ListFacts.{ends_after, ends_snoc, item_up, items_snoc, step_next}
@@ -215,7 +214,8 @@ module _ (s : List ℕ) (at : ℕ) where
       (constant_read_at s at)
   unfolding constant_read_at
   label_bucket h r n d e =
-      e ∙ ap (λ (m : ℕ). hash_of (bytes_at (m - 1) s (at + 2))) d ∙ sym (choose_true _ _ h ∙ ap hash_of (choose_true (bytes_at (byte_at s at - 1) s (at + 2)) [] h))
+      e ∙ ap (λ (m : ℕ). hash_of (bytes_at (m - 1) s (at + 2))) d ∙ sym
+      (choose_true _ _ h ∙ ap hash_of (choose_true (bytes_at (byte_at s at - 1) s (at + 2)) [] h))
 
   pub number_bucket : has_label (byte_at s (at + 1)) ≡ false → (r : ℕ) → r ≡ u32_at s (at + 2) → r % buckets ≡ constant_bucket (constant_read_at s at)
   unfolding constant_read_at

@@ -16,7 +16,7 @@ use Rattle.model.specs.Bytes.{byte_at, choose, Reading, got, refused, and_then}
 use Rattle.model.specs.Readings.{expr_at, fact_at, constraint_at}
 use Rattle.model.specs.Forms as forms
 use Rattle.model.specs.Nodes.{parts_form, variable_form, check_parts, fitted, check_says, check_test, check_by, check_node}
-use Rattle.wire.proofs.Reading.{choose_true, choose_false, both_first, both-second}
+use Rattle.wire.proofs.Reading.{choose_true, choose_false, both_first, both_second}
 use Rattle.kinds.specs.Cells.{Ask, good, feed, fit_then, nothing}
 use Rattle.kinds.specs.Asks.{kind_term, ask_place, ask_test, asks_for, Regular}
 use Rattle.kinds.specs.Choices.{MeetsAll}
@@ -172,7 +172,7 @@ module _ {cs : List Constant} {vs : List Verb} {ks sg : List ℕ} (X : Tables cs
     tests = λ c m.
         let n = byte_at s p in
         rw (Memᴰ.eq_of_singleton m)
-        (leb-true 1 n (both_first (leb 1 n) (leb n 5) o), leb-true n 5 (both-second (leb 1 n) (leb n 5) o));
+        (leb-true 1 n (both_first (leb 1 n) (leb n 5) o), leb-true n 5 (both_second (leb 1 n) (leb n 5) o));
   }
 
   reads_says : (φ : forms.Form) (at : ℕ) (t : List ℕ) (D : Demands) → State cs t D → Reads cs (says_to ks sg s (code_form φ) at t) (check_says cs vs s φ D at)

@@ -6,9 +6,10 @@ use Prim.Native.Nat.{ℕ, zero, suc, ◌+◌, ◌≤◌}
 use lib.ListN.{length}
 use lib.Dec.{eqb, leb}
 use borrow.Author.Tests.{leb-true}
-use Rattle.model.specs.Syntax.{Constant, Verb, Node, says, all_of, any_of, non, exists, end, more}
+use Rattle.model.specs.Syntax.{Constant, Verb, Node, says, all_of, any_of, non, exists, more}
 use Rattle.model.specs.Bytes.{byte_at, choose}
-use Rattle.model.specs.Readings.{expr_at, Sort, says_sort, test_sort, all_sort, any_sort, not_sort, exists_sort, no_sort, sort_of, ends_by, nodes_by, end_by, node_end}
+use Rattle.model.specs.Readings.{expr_at, Sort, says_sort, test_sort, all_sort, any_sort, not_sort, exists_sort, no_sort, sort_of, ends_by, nodes_by, end_by}
+use Rattle.model.specs.Readings.{node_end}
 use Rattle.model.specs.Readings.{node_by, node_at}
 use Rattle.wire.proofs.Reading.{choose_true, choose_false, past_end}
 use Rattle.phrases.specs.Tables.{Tables}
@@ -104,5 +105,6 @@ module _ {cs : List Constant} {vs : List Verb} {ks sg : List ℕ} (X : Tables cs
       by_bool (leb (length s) at)
       (λ o. choose_true _ _ o ∙ sym (ap (λ (k : Sort). node_by vs s k (node_at vs s d) (node_end vs s d) at) (past_sort s at (leb-true (length s) at o))))
       (λ o.
-      choose_false _ _ o ∙ tree_of_law (shape_at s at) (tree_in sg s d) (node_at vs s d) (end_in sg s d) (node_end vs s d) (λ p. tree_is d p) (λ p. end_is d p) at
+      choose_false _ _ o ∙ tree_of_law (shape_at s at) (tree_in sg s d) (node_at vs s d) (end_in sg s d) (node_end vs s d) (λ p. tree_is d p)
+      (λ p. end_is d p) at
       ∙ ap (λ (k : Sort). node_by vs s k (node_at vs s d) (node_end vs s d) at) (sym (sort_is (byte_at s at))))

@@ -1,4 +1,6 @@
 // The form of a request's nodes, and what they ask of the kinds.
+#![tactic(auto)]
+
 ghost use Rattle.std.specs.Prelude.{◌≡◌, ◌+◌, ◌≤◌, ◌<◌, length};
 ghost use Rattle.model.specs.Nodes.{parts_form, variable_form};
 ghost use Rattle.kinds.specs.Cells.{feed};
@@ -16,7 +18,7 @@ pub mod tree;
 const LAST_VARIABLE: usize = VARIABLES - 1;
 
 // Where reading goes on (no is 0), or a refusal's number and place; and the variables' cells.
-#[derive(Drop)]
+#[derive(Clone, Copy)]
 pub struct Got {
     pub no: u8,
     pub at: usize,

@@ -5,7 +5,7 @@ ghost use Rattle.wire.specs.Budget.{longest};
 ghost use Rattle.nodes.specs.Tree.{later_shape, shape_of, shape_at, end_in};
 
 // What a node is by its first byte.
-#[derive(Drop)]
+#[derive(Clone, Copy)]
 pub enum Shape {
     Says,
     Test,

@@ -1,4 +1,6 @@
 // What a decision says, the line that a program prints of it, and its numbers for C.
+#![tactic(auto)]
+
 pub mod numbers;
 
 ghost use Rattle.std.specs.Prelude.{◌≡◌, List, [], ◌++◌, ℕ, ◌+◌, ◌≤◌, ◌<◌, length, take, drop};
@@ -8,7 +10,7 @@ ghost use Rattle.outcome.specs.Reported.{report_of};
 ghost use Rattle.outcome.specs.Wrote.{Wrote};
 
 // A decision, or one of the numbered refusals with a place: one outcome for each report (`specs/Reported.OneSpelling`).
-#[derive(Drop)]
+#[derive(Clone, Copy)]
 pub enum Outcome {
     // the counts of facts, rounds and answers
     Allow(usize, usize, usize),
@@ -47,7 +49,7 @@ pub fn refused_on(side: u8, number: u8, place: usize) -> Outcome
 
 // What the C interface returns: numbers alone.
 #[repr(C)]
-#[derive(Drop)]
+#[derive(Clone, Copy)]
 pub struct Report {
     // 0 refused, 1 allow, 2 deny
     pub decision: u32,

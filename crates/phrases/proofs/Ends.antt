@@ -14,8 +14,7 @@ use Rattle.model.specs.Readings.{constraints_at}
 use Rattle.model.specs.Forms as forms
 use Rattle.model.specs.Forms.{ends, broken, no_verb, operator_form, operators_form}
 pub use Rattle.model.proofs.ReaderEnds.{form_ends, form_within, forms_end, forms_within}
-use Rattle.wire.proofs.Reading.{both_first, both-second}
-use Rattle.phrases.specs.declared.Form.{Form}
+use Rattle.wire.proofs.Reading.{both_first, both_second}
 use Rattle.phrases.specs.declared.Form.TheVariants.{Ends, Broken, NoVerb}
 use Rattle.phrases.specs.Phrases.{code_form}
 
@@ -45,7 +44,7 @@ pub operator_regular : (s : List ℕ) (p : ℕ) → operator_form s p ≡ true �
 unfolding operator_form
 operator_regular s p h = (
   leb-true 1 (byte_at s p) (both_first (leb 1 (byte_at s p)) (leb (byte_at s p) 5) h),
-  leb-true (byte_at s p) 5 (both-second (leb 1 (byte_at s p)) (leb (byte_at s p) 5) h),
+  leb-true (byte_at s p) 5 (both_second (leb 1 (byte_at s p)) (leb (byte_at s p) 5) h),
 )
 
 pub operators_regular : (s : List ℕ) (n p : ℕ) → operators_form n s p ≡ true → (c : Constraint) → Memᴰ c (constraints_at n s p) → (1 ≤ c.op) × (c.op ≤ 5)
@@ -54,5 +53,5 @@ operators_regular s zero p h c m = absurd (Memᴰ.not-nil m)
 operators_regular s (suc n) p h c m =
     ⊎_elim
     (λ q. rw q (operator_regular s p (both_first (operator_form s p) (operators_form n s (p + 5)) h)))
-    (λ k. operators_regular s n (p + 5) (both-second (operator_form s p) (operators_form n s (p + 5)) h) c k)
+    (λ k. operators_regular s n (p + 5) (both_second (operator_form s p) (operators_form n s (p + 5)) h) c k)
     (Memᴰ.cases_cons m)

@@ -15,7 +15,8 @@ use Rattle.model.specs.Lists.{each}
 use Rattle.model.specs.Syntax.{Expr, con, var, today, Fact, flat, can_say, Constant, Verb}
 use Rattle.model.specs.Kinds.{param_kinds, pair, places}
 use Rattle.model.specs.Bytes.{byte_at, u16_at, choose}
-use Rattle.model.specs.Readings.{arity_of, expr_of, expr_at, exprs_at, constraint_at, constraints_at, levels_at, levels_end, fact_at, fact_end, facts_at, facts_end}
+use Rattle.model.specs.Readings.{arity_of, expr_of, expr_at, exprs_at, constraint_at, constraints_at, levels_at, levels_end, fact_at, fact_end, facts_at}
+use Rattle.model.specs.Readings.{facts_end}
 use Rattle.model.specs.Forms as forms
 use Rattle.model.specs.Forms.{then_form, phrase_form, levels_form, fact_form, facts_form}
 use Rattle.wire.proofs.Reading.{choose_true, choose_false}
@@ -24,7 +25,8 @@ use Rattle.kinds.specs.Asks.{kind_term, var_term, term_of, place_term, ask_place
 use Rattle.phrases.specs.declared.Form.{Form}
 use Rattle.phrases.specs.declared.Form.TheVariants.{Ends, Broken, NoVerb}
 use Rattle.phrases.specs.Tables.{Tables}
-use Rattle.phrases.specs.Phrases.{arity_by, levels_by, fact_by, fact_next, facts_by, facts_next, code_form, then_by, phrase_form_by, levels_form_by, fact_form_by}
+use Rattle.phrases.specs.Phrases.{arity_by, levels_by, fact_by, fact_next, facts_by, facts_next, code_form, then_by, phrase_form_by, levels_form_by}
+use Rattle.phrases.specs.Phrases.{fact_form_by}
 use Rattle.phrases.specs.Phrases.{facts_form_by, term_by, place_by, term_at, place_at, params_asks, levels_asks, fact_asks, facts_asks, test_asks, tests_asks}
 
 -- a number past the verbs has no parameters
@@ -221,7 +223,8 @@ module _ {cs : List Constant} {vs : List Verb} {ks sg : List ℕ} (X : Tables cs
     unfolding facts_asks facts_at
     facts_asks_law zero p = refl
     facts_asks_law (suc n) p =
-        ap₂ ◌++◌ (fact_asks_law p) (facts_asks_law n (fact_next sg s p) ∙ ap (λ (q : ℕ). map (ask_place cs) (each (facts_at vs n s q) (places vs))) (next_is s p))
+        ap₂ ◌++◌ (fact_asks_law p) (facts_asks_law n (fact_next sg s p) ∙ ap (λ (q : ℕ). map (ask_place cs) (each (facts_at vs n s q) (places vs)))
+        (next_is s p))
         ∙ sym (map-append (ask_place cs) (places vs (fact_at vs s p)) (each (facts_at vs n s (fact_end vs s p)) (places vs)))
 
     pub test_asks_law : (p : ℕ) → test_asks ks s p ≡ ask_test cs (constraint_at s p)

@@ -1,9 +1,8 @@
 -- From the lists to the whole policy.
 use mathlib.Core.Path.{◌≡◌, refl, sym, ◌∙◌, ap, ap₂, subst}
 use mathlib.Core.Bool.{Bool, true, false}
-use mathlib.Core.List.{List, [], ◌∷◌, ◌++◌, map, Memᴰ}
-use Prim.Native.Nat.{ℕ, zero, suc, ◌+◌, ◌-◌, ◌≤◌, ◌<◌}
-use native.Mathlib.Omega.{arith}
+use mathlib.Core.List.{List, [], ◌∷◌, ◌++◌}
+use Prim.Native.Nat.{ℕ, zero, suc, ◌+◌, ◌≤◌, ◌<◌}
 use lib.Dec.{eqb}
 use lib.ListN.{length}
 use Rattle.wire.proofs.Reading.{choose_true, choose_false}
@@ -13,19 +12,20 @@ use Rattle.model.specs.Bytes.{byte_at, u16_at, choose, Reading, got, refused, an
 use Rattle.model.specs.Readings.{item_end, ends_by, constant_read_at, verb_at, assertion_read_at, assertion_end}
 use Rattle.model.specs.Forms as forms
 use Rattle.model.specs.Forms.{ends, broken, no_verb, constant_form, verb_form, assertion_form}
-use Rattle.model.specs.Policies.{Item, contents, version_there, length_right, headed, ended, items_from, list_at, constant_item, verb_item, judged, assertion_by}
-use Rattle.model.specs.Policies.{assertion_item, Accepted, assertions_from, verbs_from, constants_from, read_policy}
+use Rattle.model.specs.Policies.{Item, contents, version_there, length_right, headed, ended, items_from, list_at, constant_item, verb_item, judged}
+use Rattle.model.specs.Policies.{assertion_by}
+use Rattle.model.specs.Policies.{assertion_item, Accepted, assertions_from}
 use Rattle.model.proofs.ReadFacts.{never, choose_yes, and_then_got}
 use Rattle.phrases.specs.Tables.{Tables}
 use Rattle.slices.specs.declared.Step.{Step}
 use Rattle.slices.specs.declared.Step.TheVariants.{Next, Refused}
 use Rattle.policy.specs.declared.Index.{Index}
 use Rattle.slices.specs.Steps.{step, then_step, count_right, ended_at}
-use Rattle.slices.specs.Items.{starts_at, items_at, constants_at, verbs_at, assertions_at}
-use Rattle.policy.specs.Index.{held, kind_table, verb_table, index_of, refusal, handed_out, kinds_at, signatures_at, index_at}
-use Rattle.assertions.specs.Assertions.{item_by, items_by, assertion_form_by, assertions_by}
-use Rattle.slices.proofs.ListFacts.{Reads, Counted, counted, step_refused, step_next, list_is, list_got, list_right, items_length, items_starts}
-use Rattle.slices.proofs.ListFacts.{contents_each, T_true}
+use Rattle.slices.specs.Items.{constants_at, verbs_at, assertions_at}
+use Rattle.policy.specs.Index.{verb_table, index_of, refusal, handed_out, kinds_at, signatures_at, index_at}
+use Rattle.assertions.specs.Assertions.{items_by, assertions_by}
+use Rattle.slices.proofs.ListFacts.{Reads, Counted, step_refused, step_next, list_is, list_got, list_right, items_length, items_starts}
+use Rattle.slices.proofs.ListFacts.{contents_each}
 use Rattle.names.proofs.ItemFacts.{constant_reads, verb_reads, constant_right, verb_right}
 use Rattle.policy.proofs.TableFacts.{kinds_are_law, rows_are, constant_kind, Signed, verb_signed, verb_arity, tables}
 use Rattle.assertions.proofs.AssertionFacts.{Shaped, shaped, item_is}
@@ -117,7 +117,8 @@ module _ (s : List ℕ) (p : ℕ) (K : Constants s p) where
 
   pub constants_right : (j : ℕ) → j < u16_at s 5 → constant_form s (ends_by (item_end s) j 7) ≡ true
   constants_right =
-      list_right s (constant_item s) (constant_read_at s) (item_end s) (constant_reads s) (λ at. constant_form s at ≡ true) (constant_right s) 1 max_constants 5 _ p K
+      list_right s (constant_item s) (constant_read_at s) (item_end s) (constant_reads s) (λ at. constant_form s at ≡ true)
+      (constant_right s) 1 max_constants 5 _ p K
 
   module _ (q : ℕ) (W : Verbs s p q) where
     pub verbs_within : q ≤ length s
@@ -165,7 +166,8 @@ module _ (s : List ℕ) (p : ℕ) (K : Constants s p) where
     unfolding index_at index_of
     index_is = rw (kinds_are_law s (u16_at s 5) 7, signatures_are) (simp (items_length, items_starts))
 
-    module _ (ks sg : List ℕ) (k : ks ≡ kinds_at s (u16_at s 5) 7) (g : sg ≡ signatures_at s (u16_at s p) (p + 2)) (y : Step) (d : y ≡ assertions_by ks sg s q) where
+    module _ (ks sg : List ℕ) (k : ks ≡ kinds_at s (u16_at s 5) 7) (g : sg ≡ signatures_at s (u16_at s p) (p + 2)) (y : Step)
+        (d : y ≡ assertions_by ks sg s q) where
       rest_is : step (rest q) ≡ y
       rest_is = sym (d ∙ ap₂ (λ (ks sg : List ℕ). assertions_by ks sg s q) k g ∙ assertions_are s _ _ read_tables q)
 
@@ -202,6 +204,7 @@ module _ (s : List ℕ) (r : Reading Accepted) where
   unfolding headed handed_out
   no_length z h k i = i ∙ ap handed_out (sym (choose_true _ _ h ∙ choose_false _ _ k))
 
-  pub header_right : (z : Index) → version_there policy_versions s ≡ true → length_right s ≡ true → z ≡ handed_out r → z ≡ handed_out (headed policy_versions s r)
+  pub header_right : (z : Index) → version_there policy_versions s ≡ true → length_right s ≡ true → z ≡ handed_out r → z ≡ handed_out
+      (headed policy_versions s r)
   unfolding headed
   header_right z h k i = i ∙ ap handed_out (sym (choose_true _ _ h ∙ choose_true _ _ k))

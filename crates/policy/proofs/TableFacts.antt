@@ -1,30 +1,29 @@
 -- The two tables say what the model's lists of constants and verbs say.
 use mathlib.Core.Path.{◌≡◌, refl, sym, ◌∙◌, ap, ap₂, subst}
-use mathlib.Core.Bool.{Bool, true, false, ◌||◌}
-use mathlib.Core.Logic.{◌⊎◌, inl, inr, ⊎_elim}
+use mathlib.Core.Bool.{Bool, true, false}
+use mathlib.Core.Logic.{⊎_elim}
 use mathlib.Core.List.Memᴰ
 use mathlib.Core.List.{List, [], ◌∷◌, ◌++◌, map, Memᴰ}
 use Prim.Native.Nat.{ℕ, zero, suc, ◌+◌, ◌-◌, ◌*◌, ◌≤◌, ◌<◌}
 use native.Mathlib.Omega.{arith}
 use native.Mathlib.Decide.{dec_lt}
 use lib.Dec.{eqb, leb, leb→le, eqb→eq}
-use lib.ListN.{length, get_or, replicate, length-map, length-append, length-replicate, get_or-replicate, get_or-append, get_or-eq_default, get_or-map}
+use lib.ListN.{length, get_or, replicate, length-map, length-append, get_or-append, get_or-eq_default, get_or-map}
 use lib.Seq.{get_or-append-add, take_at}
 use borrow.Author.Tests.{leb-true, eqb-true}
-use Rattle.wire.proofs.Reading.{both_first, both-second, choose_true, choose_false}
-use Rattle.model.specs.Limits.{principal, day, quantity}
-use Rattle.model.specs.Lists.{all, each, pad}
+use Rattle.wire.proofs.Reading.{both_first, both_second, choose_false}
+use Rattle.model.specs.Limits.{principal}
+use Rattle.model.specs.Lists.{each, pad}
 use Rattle.model.specs.Syntax.{Constant, Verb}
 use Rattle.model.specs.Kinds.{no_constant, kind_at, param_kinds}
-use Rattle.model.specs.Bytes.{byte_at, u32_at, bytes_at, choose, both}
+use Rattle.model.specs.Bytes.{byte_at, u32_at, bytes_at, choose}
 use Rattle.model.specs.Readings.{item_end, ends_by, has_label, constant_read_at, verb_at, arity_of}
-use Rattle.model.specs.Forms.{is_kind, label_form, item_there, number_form, value_form, constant_form, signature_form, verb_form}
+use Rattle.model.specs.Forms.{is_kind, item_there, number_form, value_form, constant_form, signature_form, verb_form}
 use Rattle.model.specs.Policies.{contents}
 use Rattle.model.proofs.ListFacts.{and_of, or_of, all_of_law}
 use Rattle.phrases.specs.Tables.{Tables}
 use Rattle.slices.specs.Items.{starts_at, items_at, constants_at, verbs_at}
 use Rattle.policy.specs.Index.{held, kind_table, row_of, rows_of, verb_table, kind_of, row_at, kinds_at, signatures_at}
-use Rattle.slices.proofs.ListFacts.{contents_length, contents_at}
 use Rattle.model.proofs.ByteFacts.{zeros, length_pad, bytes_length}
 use Rattle.model.proofs.Tests.{true_T}
 use lib.ListN.{take, length-append}
@@ -104,7 +103,8 @@ Short rows = (r : List ℕ) → Memᴰ r rows → length r ≤ 3
 row_length : (r : List ℕ) → length r ≤ 3 → length (row_of r) ≡ 4
 row_length r h = length_pad 4 (suc (length r) ∷ r) (omega arith)
 
-in_row : (rows : List (List ℕ)) → Short rows → (v j : ℕ) → v < length rows → j < 4 → get_or (each rows row_of) (4 * v + j) 0 ≡ get_or (row_of (get_or rows v [])) j 0
+in_row : (rows : List (List ℕ)) → Short rows → (v j : ℕ) → v < length rows → j < 4 → get_or (each rows row_of) (4 * v + j) 0 ≡ get_or
+    (row_of (get_or rows v [])) j 0
 in_row [] h v j l k = absurd (omega arith)
 in_row (r ∷ rows) h zero j l k =
     let e : 0 + j ≡ j = omega arith in
@@ -135,7 +135,7 @@ unfolding constant_form value_form number_form constant_read_at
 constant_kind s at h = go (has_label (byte_at s (at + 1))) refl
   where
     v : value_form s at ≡ true
-    v = both-second (leb 2 (byte_at s at)) _ (both-second (item_there s at) _ h)
+    v = both_second (leb 2 (byte_at s at)) _ (both_second (item_there s at) _ h)
 
     num : (b : Bool) → eqb (byte_at s (at + 1)) 3 ≡ b → choose b (leb (u32_at s (at + 2)) 36524) (eqb (byte_at s (at + 1)) 4) ≡ true → byte_at s (at + 1) ≤ 4
     num true e w = let q = eqb-true (byte_at s (at + 1)) 3 e in omega arith
@@ -143,7 +143,7 @@ constant_kind s at h = go (has_label (byte_at s (at + 1))) refl
 
     go : (b : Bool) → has_label (byte_at s (at + 1)) ≡ b → byte_at s (at + 1) ≤ 4
     go true e = or_low (byte_at s (at + 1)) e
-    go false e = num (eqb (byte_at s (at + 1)) 3) refl (both-second (eqb (byte_at s at) 5) _ (sym (choose_false _ _ e) ∙ v))
+    go false e = num (eqb (byte_at s (at + 1)) 3) refl (both_second (eqb (byte_at s at) 5) _ (sym (choose_false _ _ e) ∙ v))
 
 -- at most three parameters, each of one of the four kinds
 pub record Signed (v : Verb) : Type 0 where
@@ -153,9 +153,9 @@ pub record Signed (v : Verb) : Type 0 where
 pub verb_signed : (s : List ℕ) (at : ℕ) → verb_form s at ≡ true → Signed (verb_at s at)
 unfolding verb_form signature_form verb_at
 verb_signed s at h =
-    let g = both-second (leb 1 (byte_at s at)) _ (both-second (item_there s at) _ h) in
+    let g = both_second (leb 1 (byte_at s at)) _ (both_second (item_there s at) _ h) in
     let a = leb-true (byte_at s (at + 1)) 3 (both_first _ _ g) in
-    let i = both_first _ _ (both-second (leb (1 + byte_at s (at + 1)) (byte_at s at)) _ (both-second (leb (byte_at s (at + 1)) 3) _ g)) in
+    let i = both_first _ _ (both_second (leb (1 + byte_at s (at + 1)) (byte_at s at)) _ (both_second (leb (byte_at s (at + 1)) 3) _ g)) in
     record {
       few = rw (bytes_length (byte_at s (at + 1)) s (at + 2)) a;
       known = λ k m. let t = and_of (leb 1 k) (leb k 4) (all_of_law is_kind (true_T _ i) m) in (leb→le 1 k t.0, leb→le k 4 t.1);

@@ -127,7 +127,8 @@ kind_at s at r e = e
 pub starts_held : (g : ℕ → ℕ) (m n p : ℕ) → n ≤ m → sets (replicate m 0) 0 (starts_at g n p) ≡ held m (starts_at g n p)
 starts_held g m n p h = sets_held m (starts_at g n p) (rw (starts_length g n p) h)
 
-pub issuers_held : (g : ℕ → ℕ) (n p : ℕ) → n ≤ 256 → sets (replicate 256 0) 0 (map issuer_read_at (starts_at g n p)) ≡ held 256 (map issuer_read_at (starts_at g n p))
+pub issuers_held : (g : ℕ → ℕ) (n p : ℕ) → n ≤ 256 → sets (replicate 256 0) 0 (map issuer_read_at (starts_at g n p)) ≡ held 256
+    (map issuer_read_at (starts_at g n p))
 issuers_held g n p h = sets_held 256 _ (rw (length-map, starts_length) h)
 
 pub kinds_held : (s : List ℕ) (n p : ℕ) → n ≤ 255 → sets (replicate 255 0) 0 (map (kind_of s) (starts_at (item_end s) n p)) ≡ kinds_at s n p
@@ -139,6 +140,7 @@ unfolding starts_at
 rows_length s g zero p = refl
 rows_length s g (suc k) p = length-append (row_at s p) _ ∙ (let a = row_length s p in let b = rows_length s g k (g p) in omega arith)
 
-pub rows_held : (s : List ℕ) (n p : ℕ) → n ≤ 64 → sets (set (set (replicate 260 0) 0 2) 1 1) 4 (each (starts_at (item_end s) n p) (row_at s)) ≡ signatures_at s n p
+pub rows_held : (s : List ℕ) (n p : ℕ) → n ≤ 64 → sets (set (set (replicate 260 0) 0 2) 1 1) 4
+    (each (starts_at (item_end s) n p) (row_at s)) ≡ signatures_at s n p
 unfolding signatures_at
 rows_held s n p h = sets_held 260 (2 ∷ 1 ∷ 0 ∷ 0 ∷ each (starts_at (item_end s) n p) (row_at s)) (let a = rows_length s (item_end s) n p in omega arith)

@@ -6,10 +6,9 @@ use Rattle.model.specs.Syntax.{Constant, Verb}
 unfoldable pub use Rattle.model.specs.Labels.{label_in, label_of}
 use Rattle.model.specs.Bytes.{byte_at, u16_at, choose, Reading, got, refused}
 use Rattle.model.specs.Readings.{item_end, assertion_end, has_label}
-use Rattle.model.specs.Policies.{contents, offsets, Accepted, read_policy}
+use Rattle.model.specs.Policies.{contents, offsets, Accepted}
 use Rattle.slices.specs.Items.{starts_at}
 use Rattle.assertions.specs.Assertions.{issuer_read_at}
-use Rattle.policy.specs.declared.Answer.{Answer}
 use Rattle.policy.specs.declared.Answer.TheVariants as answers
 use Rattle.policy.specs.declared.Index.{Index}
 use Rattle.policy.specs.declared.Part.{Part}

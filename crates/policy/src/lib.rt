@@ -1,4 +1,6 @@
 // The policy reader: accepted, with where everything stands, or refusal 1 to 6 with its place. And the label of a constant.
+#![tactic(auto)]
+
 ghost use Rattle.std.specs.Prelude.{◌≡◌, ◌+◌, ◌≤◌, length};
 ghost use Rattle.model.specs.Bytes.{u16_at, got};
 ghost use Rattle.model.specs.Limits.{max_constants, max_verbs, max_assertions};
@@ -14,14 +16,14 @@ pub mod tables;
 // The constants stand behind their 2-byte count.
 const FIRST_CONSTANT: usize = limits::HEADER + 2;
 
-#[derive(Drop)]
+#[derive(Clone, Copy)]
 pub enum Answer {
     Accepted,
     Refused(u8, usize),
 }
 
 // What a policy's reader hands out. Where the policy is refused, all but the answer is 0.
-#[derive(Drop)]
+#[derive(Clone, Copy)]
 pub struct Index {
     pub answer: Answer,
     // as read
@@ -147,7 +149,7 @@ pub fn read(policy: &[u8]) -> Index
 }
 
 // A part of the policy's bytes.
-#[derive(Drop)]
+#[derive(Clone, Copy)]
 pub struct Part {
     pub from: usize,
     pub to: usize,

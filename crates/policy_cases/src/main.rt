@@ -1,64 +1,46 @@
 // Reads policies from a file, each led by its length in 2 bytes, and prints what the reader answers: the counts of constants, verbs and assertions,
 // or a refusal's number and place.
-use libc::STDOUT_FILENO;
+#![tactic(auto)]
+
 use policy::Answer;
+use std::io::Read;
+use std::{fs, io};
 
-fn word(b: &[u8]) {
-    io::write_all(STDOUT_FILENO, b);
-}
-
-fn number(n: usize) {
-    io::print_decimal(STDOUT_FILENO, n as u64);
-}
+const POLICIES: &str = "policies.bin";
 
 // The policy that `s` holds.
-fn case(s: &[u8]) {
+fn case(rt: &impl Print, s: &[u8]) -> io::Result<()> {
     let x = policy::read(s);
-    let a = x.answer;
-    match a {
+    match x.answer {
         Answer::Accepted => {
-            word(b"accepted ");
-            number(x.constants);
-            word(b" ");
-            number(x.verbs);
-            word(b" ");
-            number(x.assertions);
+            println!(rt; "accepted {} {} {}", x.constants, x.verbs, x.assertions)
         }
-        Answer::Refused(n, place) => {
-            word(b"refused ");
-            number(n as usize);
-            word(b" ");
-            number(place);
-        }
+        Answer::Refused(n, place) => println!(rt; "refused {n} {place}"),
     }
-    word(b"\n");
 }
 
 // Those that stand in `b`, one after the other.
-fn cases(b: &[u8]) {
+fn cases(rt: &impl Print, b: &[u8]) -> io::Result<()> {
     let mut at = 0;
     while 2 <= b.len() - at {
         let from = at + 2;
         let n = wire::u16_at(b, at);
         if b.len() - from < n {
-            return;
+            return Ok(());
         }
         let to = from + n;
-        case(&b[from..to]);
+        case(rt, &b[from..to])?;
         at = to;
     }
+    Ok(())
 }
 
-fn main() {
-    let path = b"policies.bin";
-    let file = os::open_read(path);
-    if file < 0 {
-        os::fail(path);
-        return;
-    }
-    let mut buffer = io::large_buffer();
-    let got = libc::read(file, &mut buffer);
-    libc::close(file);
-    let n = io::count(got, &buffer);
-    cases(&buffer[..n]);
+fn main(rt: HostRuntime) -> io::Result<()> {
+    let mut file = match fs::open(&rt, POLICIES) {
+        Ok(file) => file,
+        Err(e) => return eprintln!(rt; "{POLICIES}: {e}"),
+    };
+    let mut buffer = [0u8; 65536];
+    let n = file.read(&mut buffer).unwrap_or(0);
+    cases(&rt, &buffer[..n])
 }

@@ -99,7 +99,8 @@ pub issuers_are : (ks sg s z : List ℕ) → z ≡ marked (issuers (tree_in sg s
     → Tables W.constants W.verbs ks sg
     → (p : ℕ) → p < 255 → get_or z p 0 ≡ cond (member p (issuers (node_at W.verbs s max_depth first_node_at) W)) 1 0
 issuers_are ks sg s z e W X p h =
-    ap (λ (l : List ℕ). get_or l p 0) e ∙ set_at_law (issuers (tree_in sg s max_depth first_node_at) (world_by ks)) (zeros 255) p (rw (length-replicate {A = ℕ} 255 0) h)
+    ap (λ (l : List ℕ). get_or l p 0) e ∙ set_at_law (issuers (tree_in sg s max_depth first_node_at) (world_by ks)) (zeros 255) p
+    (rw (length-replicate {A = ℕ} 255 0) h)
     ∙ ap₂ (λ (b : Bool) (x : ℕ). cond b 1 x)
     (ap (λ (n : Node). member p (issuers n (world_by ks))) (tree_is X s max_depth first_node_at)
     ∙ issuers_same (world_by ks) W (same_principals W.constants ks X.kinds) p (node_at W.verbs s max_depth first_node_at))

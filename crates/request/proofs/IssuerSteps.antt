@@ -87,7 +87,8 @@ module _ (W : World) (sg s : List ℕ) where
       pub issuers_test : y ≡ Test → z ≡ m → z ≡ marked (issuers (tree_in sg s d at) W) m
       issuers_test g h = rw (tree_test sg s d at y n l e g) h
 
-      pub issuers_all_law : y ≡ All → z ≡ marked (issuers_all (nodes_in (d - 1) (byte_at s (at + 1)) (at + 2)) W) m → z ≡ marked (issuers (tree_in sg s d at) W) m
+      pub issuers_all_law : y ≡ All → z ≡ marked (issuers_all (nodes_in (d - 1) (byte_at s (at + 1)) (at + 2)) W) m → z ≡ marked
+          (issuers (tree_in sg s d at) W) m
       issuers_all_law g h = rw (tree_all sg s d at y n l e g) h
 
       pub issuers_any : y ≡ Any → z ≡ marked (issuers_all (nodes_in (d - 1) (byte_at s (at + 1)) (at + 2)) W) m → z ≡ marked (issuers (tree_in sg s d at) W) m
@@ -111,4 +112,5 @@ module _ (W : World) (sg s : List ℕ) where
         → z ≡ marked (issuers_all (nodes_in d n at) W) m
     issuers_more u z p x a e h =
         rw (nodes_more (tree_in sg s d) (end_in sg s d) n at p x e)
-        (h ∙ ap (marked (issuers_all (nodes_in d (n - 1) p) W)) a ∙ sym (marked_append (issuers (tree_in sg s d at) W) (issuers_all (nodes_in d (n - 1) p) W) m))
+        (h ∙ ap (marked (issuers_all (nodes_in d (n - 1) p) W)) a ∙ sym
+        (marked_append (issuers (tree_in sg s d at) W) (issuers_all (nodes_in d (n - 1) p) W) m))

@@ -11,7 +11,7 @@ use native.Mathlib.Omega.{arith}
 use lib.ListN.{length}
 use lib.Dec.{T, eqb, eqb→eq, eqb_refl}
 use Rattle.model.specs.Limits.{principal}
-use Rattle.model.specs.Lists.{each, member, among, without}
+use Rattle.model.specs.Lists.{member, among, without}
 use Rattle.model.specs.Syntax.{Expr, con, var, today, Fact, flat, can_say, Verb, Node, Nodes, says, test, all_of, any_of, non, exists, end, more, vars_of}
 use Rattle.model.specs.Syntax.{vars_in, vars_test}
 use Rattle.model.specs.Kinds.{pair, param_kinds, places, demands_in, demands_all, is_var, kind_of}
@@ -204,7 +204,8 @@ module _ (vs : List Verb) where
           bounds = λ v m. ⊎_elim (λ e. inr (subst (λ (x : ℕ). In x ps) (sym e) bound)) (i.bounds v) (Memᴰ.cases_cons m);
         }
 
-    told_all : (ns : Nodes) → SoundAll vs ns → (us ws : List ℕ) → known_all ns us ≡ some ws → Told us (demands_all ns vs).places (free_all ns) (binders_all ns) ws
+    told_all : (ns : Nodes) → SoundAll vs ns → (us ws : List ℕ) → known_all ns us ≡ some ws → Told us (demands_all ns vs).places (free_all ns)
+        (binders_all ns) ws
     told_all end a us ws r = record { after = subst (Covered us []) (the_same us ws r) (before us []); frees = nil us []; bounds = nil us [] }
     told_all (more n ns) a us ws r =
         let ps = (demands_in n vs).places in

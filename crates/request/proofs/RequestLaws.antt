@@ -13,7 +13,7 @@ use lib.Seq.{ext_get_or}
 use lib.Dec.{T, eqb, ltb}
 use borrow.Author.Tests.{eq-eqb, ne_eqb, lt-ltb}
 use Rattle.model.specs.Limits.{version, max_day, max_depth, first_node_at, header_bytes, principal}
-use Rattle.model.specs.Lists.{each, member, among, apart}
+use Rattle.model.specs.Lists.{each, member, apart}
 use Rattle.model.specs.Syntax as syntax
 use Rattle.model.specs.Syntax.{Expr, var, Constraint, Constant, Verb, Node, Nodes, says, test, all_of, any_of, non, exists, end, more, vars_of, vars_in}
 use Rattle.model.specs.Syntax.{vars_test}

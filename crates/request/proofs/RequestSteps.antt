@@ -4,7 +4,6 @@ use mathlib.Core.Bool.{true, false}
 use mathlib.Core.List.{List, [], ◌∷◌, map}
 use Prim.Native.Nat.{ℕ}
 use Rattle.model.specs.Kinds.{variables}
-use Rattle.model.specs.Requests.{free}
 use Rattle.model.specs.Bytes.{u32_at}
 use Rattle.wire.proofs.Reading.{on_yes, on_no}
 use Rattle.request.specs.Requests.{refusal, cell_kinds, accepted_in}

@@ -1,4 +1,6 @@
 // The request reader: accepted, with today, the kinds of its variables and which of them are free; or refusal 1, 2, 3, 5 or 7 with its place.
+#![tactic(auto)]
+
 ghost use Rattle.std.specs.Prelude.{◌≡◌, List, cond, ℕ, ◌≤◌, ◌<◌, length, get_or};
 ghost use Rattle.model.specs.Limits.{max_depth, first_node_at};
 ghost use Rattle.model.specs.Lists.{member};
@@ -18,7 +20,7 @@ use limits::{DEPTH, FIRST_NODE, HEADER, VARIABLES};
 use nodes::Got;
 
 // What a request asks for, or why it is refused.
-#[derive(Drop)]
+#[derive(Clone, Copy)]
 pub struct Request {
     // 0: accepted
     pub refusal: u8,
@@ -146,6 +148,7 @@ pub fn read(ks: &[u8], sg: &[u8], s: &[u8]) -> Request
 }
 
 // "every issuer in the request's says nodes": 1 for each of the 255 possible constants that is one. A variable brings in all principals.
+#[inline(never)]
 pub fn issuers(ks: &[u8], sg: &[u8], s: &[u8]) -> [u8; limits::CONSTANTS]
     requires { length s.now ≤ longest }
     ensures { (W : World) → Tables W.constants W.verbs ks.now sg.now → (p : ℕ) → p < 255

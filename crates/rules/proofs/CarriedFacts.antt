@@ -4,7 +4,7 @@
 use mathlib.Core.Path.{◌≡◌, refl, sym, ap, subst, ◌∙◌}
 use mathlib.Core.Logic.{◌⊎◌, inl, inr, ⊎_elim, ◌≢◌}
 use mathlib.Core.Bool.{Bool, true, false, cond}
-use mathlib.Core.Option.{Option, some}
+use mathlib.Core.Option.{some}
 use mathlib.Core.List.Memᴰ
 use mathlib.Core.List.{List, [], ◌∷◌, map, Memᴰ}
 use Prim.Native.Nat.{ℕ, zero, suc, ◌<◌}
@@ -16,16 +16,14 @@ use lib.Dec.{eqb}
 use borrow.Author.Tests.{eqb-true, eqb-false}
 use Rattle.model.specs.Limits.{unbound}
 use Rattle.model.specs.Syntax.{var, Constant}
-use Rattle.model.specs.Values as P
 use Rattle.model.specs.Values.{bound}
-use Rattle.constraints.specs.Told.{told_both}
 use Rattle.rules.specs.Matching.{at, fits}
 use Rattle.rules.specs.Plan.{Part}
 use Rattle.rules.specs.Patterns.{Frame}
 use Rattle.rules.specs.Cond.{may, row_of, places_of, unbound8}
 use Rattle.rules.specs.Valid.{marked}
-use Rattle.rules.specs.Searching.{Match, Tested, Offered, Next, Carried, begun, further, Fits}
-use Rattle.rules.proofs.MatchFacts.{Under, Ground, row_on, row_bound, row_same, Fitted, fits_of, fits_some}
+use Rattle.rules.specs.Searching.{Match, Tested, Offered, Carried, begun, further, Fits}
+use Rattle.rules.proofs.MatchFacts.{Under, row_on, row_bound, row_same, Fitted, fits_of, fits_some}
 use Rattle.rules.proofs.ExtendFacts.{L, unbound_at}
 use Rattle.rules.proofs.TestFacts.{passes_same, told_bound, told_in}
 use Rattle.rules.proofs.StepFacts.{Search, places, has}

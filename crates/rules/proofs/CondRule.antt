@@ -83,11 +83,11 @@ module _ {𝒜 : List Assertion} {F : Frame} {a : Assertion} (S : Framed 𝒜 F 
   plan skip = F.pattern.plan skip
 
   -- what is given, the constraints without variables hold
-  ground_of : (along : Plan) (rs : L) {c : List ℕ} → In c (grounded F along rs) → (Cond.hold F along.ground unbound8 ≡ true) × In c rs
+  ground_of : (along : Plan) (rs : L) {c : List ℕ} → In c (grounded F along rs) → (Cond.hold F along.ground_tests unbound8 ≡ true) × In c rs
   unfolding grounded
-  ground_of along rs {c} m = go (Cond.hold F along.ground unbound8) refl m
+  ground_of along rs {c} m = go (Cond.hold F along.ground_tests unbound8) refl m
     where
-      go : (b : Bool) → Cond.hold F along.ground unbound8 ≡ b → In c (cond b rs []) → (Cond.hold F along.ground unbound8 ≡ true) × In c rs
+      go : (b : Bool) → Cond.hold F along.ground_tests unbound8 ≡ b → In c (cond b rs []) → (Cond.hold F along.ground_tests unbound8 ≡ true) × In c rs
       go true e m = (e, m)
       go false e m = absurd (Memᴰ.not-nil m)
 
@@ -96,17 +96,17 @@ module _ {𝒜 : List Assertion} {F : Frame} {a : Assertion} (S : Framed 𝒜 F 
       → ((i : ℕ) → i < F.pattern.tests → Passes Sr ρ i) → grounded F along rs ≡ rs
   unfolding grounded
   ground_in Sr {along = along} v rs ρ h =
-      ap (λ (b : Bool). cond b rs []) (hold_in Sr unbound8 along.ground (λ i m. ground_on Sr v m ρ ∙ h i (v.ground.0 i m).0))
+      ap (λ (b : Bool). cond b rs []) (hold_in Sr unbound8 along.ground_tests (λ i m. ground_on Sr v m ρ ∙ h i (v.ground_tests.0 i m).0))
 
   module _ {n : ℕ} {t : L} (H : Held (Rule W 𝒜) key n t) where
-    ground : (q : List ℕ) → In q t → Ground (fact_of q)
-    ground q m =
+    ground_tests : (q : List ℕ) → In q t → Ground (fact_of q)
+    ground_tests q m =
         let s = H.sound q m in
         let fine = good W 𝒜 S.sources s.1 (derived (Rule W 𝒜) s.0 s.1 s.3) in
         subst (λ (r : List ℕ). Ground (fact_of r)) (sym s.2) (below_ground (key s.1) (key_below W s.1 fine))
 
     abbrev Sr : Search F W.constants ks t
-    Sr = search S t ground
+    Sr = search S t ground_tests
 
     -- a body fact that is met is of rounds 1 to n
     met_old : (θ : List ℕ) (i : ℕ) → i < length a.body → Met Sr (body_fact i) θ → Within (Rule W 𝒜) n (fact_at S θ i)
@@ -142,12 +142,12 @@ module _ {𝒜 : List Assertion} {F : Frame} {a : Assertion} (S : Framed 𝒜 F 
     onward q = follow (first_match (fact_of q)) (search_by F t (plan F.skip))
 
     given_fits : {q τ : List ℕ} → In q t → F.skip < bodies → first_match (fact_of q) ≡ some τ → Fitted (may F) given_row (fact_of q) unbound8 τ
-    given_fits {q} m h e = fits_of (may F) given_row (fact_of q) (Sr.rows F.skip h) (ground q m) e
+    given_fits {q} m h e = fits_of (may F) given_row (fact_of q) (Sr.rows F.skip h) (ground_tests q m) e
 
     given_marks : {q τ : List ℕ} → In q t → F.skip < bodies → Fitted (may F) given_row (fact_of q) unbound8 τ → Marks (given F.pattern F.skip) τ
     given_marks {q} {τ} m h f =
         rw (lt-ltb F.skip bodies h) (marks_row (F.pattern.body F.skip) (record { of = λ v z. unbound_at v })
-        (λ v k. row_bound given_row (fact_of q) τ (ground q m) f.is v (Memᴰ.tail (Memᴰ.tail k))))
+        (λ v k. row_bound given_row (fact_of q) τ (ground_tests q m) f.is v (Memᴰ.tail (Memᴰ.tail k))))
 
     pub cond_gives : (q c : List ℕ) → In q t → In c (cond_at F t (fact_of q)) → Gives n c
     unfolding cond_at source_of
@@ -162,7 +162,7 @@ module _ {𝒜 : List Assertion} {F : Frame} {a : Assertion} (S : Framed 𝒜 F 
             let f = given_fits mq h τ.1 in
             let w = plan_of_law Sr (S.plans F.skip (inr h)) (given_marks mq h f) (fair_on Sr.over f (fair_start Sr.over)) g.0 τ.2 in
             let ρ : List ℕ = w.0 in
-            let row = row_on given_row (fact_of q) (ground q mq) w.1.under f.is in
+            let row = row_on given_row (fact_of q) (ground_tests q mq) w.1.under f.is in
             let skipped : Met Sr (body_fact F.skip) ρ =
             (q, record { among = mq; late = not_new F.skip F.last F.skip q (λ l. absurd (omega arith)); row = row }) in
             let body = body_by_law n ρ (λ i l. met_old ρ i l (every i (omega (arith, S.laid.bodies)) (w.1.met i) skipped (ℕ_discrete F.skip i))) in

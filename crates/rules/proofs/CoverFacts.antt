@@ -256,7 +256,8 @@ module _ {W : World} {𝒜 : List Assertion} {n round : ℕ} (E : Here W 𝒜 n 
         made qs false r e t i =
             let own : replaced_of (key (said a d f)) x y z ≡ key (said a d f) =
             e ∙ ap (λ (l : List ℕ). key (said a d (with_params l f))) (unreplaced H v r refl) ∙ ap (λ (h : Fact ℕ). key (said a d h)) (with_own f) in
-            absurd (subst (λ (b : Bool). T (not b)) (eq-eqb (number_of (replaced_of (key (said a d f)) x y z)) (number_of (key (said a d f))) (ap number_of own)) t)
+            absurd (subst (λ (b : Bool). T (not b)) (eq-eqb (number_of (replaced_of (key (said a d f)) x y z)) (number_of (key (said a d f)))
+            (ap number_of own)) t)
 
     pub cover_of : (c : List ℕ) → In c (covers_of round (key (said a d f)) H) → Given (Rule W 𝒜) key n round c
     unfolding firsts_of seconds_of thirds_of
@@ -291,7 +292,7 @@ module _ {W : World} {𝒜 : List Assertion} {n round : ℕ} (E : Here W 𝒜 n 
 
         is : replaced_of (key (said a d f)) x y z ≡ key (said a d h)
         is =
-            let few : length r.0 ≤ 3 = (let k = Rattle.model.proofs.HierarchyFacts.replaced-length H v r.1 in omega (arith, few)) in
+            let few : length r.0 ≤ 3 = (let k = Rattle.model.proofs.HierarchyFacts.replaced_length H v r.1 in omega (arith, few)) in
             replaced_key a d f g.shape r.0 x y z (three_of r.0 few) ∙ ap (λ (h : Fact ℕ). key (said a d h)) (sym r.2)
 
         covered : Good W (said a d h)

@@ -14,7 +14,6 @@ use Rattle.model.specs.Lists.{all}
 use Rattle.model.specs.Syntax.{Expr, con, Fact, map_fact, Constraint, Constant, Assertion, World, Said, said, vars_test}
 use Rattle.model.specs.Kinds.{variables}
 use Rattle.model.specs.Values.{bound, kinds_of, bindings_of, passes}
-use Rattle.model.specs.Rules as R
 use Rattle.model.specs.Rules.{depths, head_of, body_of}
 use Rattle.model.specs.Records.{key, Fitting}
 use Rattle.model.proofs.ListFacts.{all_of_law, all_in}
@@ -152,7 +151,7 @@ module _ {𝒜 : List Assertion} {F : Frame} {a : Assertion} (S : Framed 𝒜 F 
       ap₂ (λ (i : ℕ) (l : List ℕ). F.round ∷ i ∷ d ∷ l) S.laid.issuer (fields θ F.pattern.head b.1.1) ∙ ap (◌∷◌ F.round) (head_bound_law θ)
 
   pub search : (t : L) → ((q : List ℕ) → In q t → Ground (fact_of q)) → Search F W.constants ks t
-  search t ground = record { over = over; rows = rows; ground = ground }
+  search t ground_tests = record { over = over; rows = rows; ground_tests = ground_tests }
     where
       rows : (i : ℕ) → i < bodies → HasAll 8 (body_row F i)
       rows i h =

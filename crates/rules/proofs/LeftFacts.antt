@@ -102,7 +102,8 @@ module _ {p : Pattern} (S : Sound p) where
   best_is (suc n) met β h = go (is_left p met n) refl (best_is n met β (omega arith))
     where
       go : (b : Bool) → is_left p met n ≡ b
-          → ((best_upto p n met β ≡ 4) × ((i : ℕ) → i < n → is_left p met i ≡ false)) ⊎ ((best_upto p n met β < n) × (is_left p met (best_upto p n met β) ≡ true))
+          → ((best_upto p n met β ≡ 4) × ((i : ℕ) → i < n → is_left p met i ≡ false)) ⊎
+          ((best_upto p n met β < n) × (is_left p met (best_upto p n met β) ≡ true))
           → ((cond b (better p met β n (best_upto p n met β)) (best_upto p n met β) ≡ 4) × ((i : ℕ) → i < suc n → is_left p met i ≡ false))
           ⊎ ((cond b (better p met β n (best_upto p n met β)) (best_upto p n met β) < suc n)
           × (is_left p met (cond b (better p met β n (best_upto p n met β)) (best_upto p n met β)) ≡ true))

@@ -24,7 +24,7 @@ use Rattle.rules.specs.Planning.{sides}
 use Rattle.rules.proofs.StepFacts.{Marks}
 use Rattle.rules.proofs.MarkFacts.{marks_trans, marked_long, marked_grows, marked_in, told_grows, in_sides}
 use Rattle.rules.proofs.MarkFacts.{bound_of, apart_of}
-use Rattle.rules.proofs.LeftFacts.{Sound, left_there, few}
+use Rattle.rules.proofs.LeftFacts.{Sound, left_there}
 
 -- a variable of such a row is below 8
 pub small : (es : List Expr) → HasAll 8 es → (v : ℕ) → Memᴰ (var v) es → v < 8

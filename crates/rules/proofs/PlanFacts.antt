@@ -214,7 +214,7 @@ module _ {p : Pattern} (S : Sound p) where
   plan_valid skip =
       let v = steps_serve 4 (set unbound8 skip 0) (given p skip) (count_most S 4 _) (length-set unbound8 skip 0) given_long in
       record {
-        ground = (below_of p.tests groundly, λ i n. below_in p.tests groundly i n.0 n.1);
+        ground_tests = (below_of p.tests groundly, λ i n. below_in p.tests groundly i n.0 n.1);
         first = (new_of unbound8 (given p skip), new_in unbound8 (given p skip));
         steps = v.steps;
         facts = λ i l n. v.facts i (left_set S unbound8 skip i n ∙ ap (λ (b : Bool). cond b (eqb (at unbound8 i) unbound) false) (lt-ltb i p.bodies l)

@@ -1,7 +1,7 @@
 -- The search carries a partial binding on exactly if what is matched so far fits and every constraint whose variables are all bound holds, and lists exactly
 -- the heads of the whole ones: for every assertion that an accepted policy lays out, and each of its body facts.
 use mathlib.Core.Path.{◌≡◌, refl, sym, ap, subst, ◌∙◌}
-use mathlib.Core.Logic.{◌⊎◌, inl, inr, ⊎_elim, ◌≢◌}
+use mathlib.Core.Logic.{◌⊎◌, inl, inr, ◌≢◌}
 use mathlib.Core.Bool.{Bool, true, false, cond}
 use mathlib.Core.Option.{some}
 use mathlib.Core.List.Memᴰ
@@ -10,16 +10,15 @@ use Prim.Native.Nat.{ℕ, ◌<◌}
 use native.Mathlib.Decide.{ℕ_discrete}
 use lib.Dec.{ltb}
 use borrow.Author.Tests.{lt-ltb}
-use Rattle.model.specs.Limits.{unbound}
 use Rattle.model.specs.Syntax.{Assertion, Constant}
 use Rattle.fact.specs.Places.{fact_of}
-use Rattle.rules.specs.Matching.{at, fits, follow}
+use Rattle.rules.specs.Matching.{fits, follow}
 use Rattle.rules.specs.Plan.{Part, body_fact, Step, Plan}
 use Rattle.rules.specs.Patterns.{Pattern, Frame}
-use Rattle.rules.specs.Cond.{may, body_row, row_of, hold, search, search_by, grounded, cond_at, head_entry, unbound8}
+use Rattle.rules.specs.Cond.{may, body_row, hold, search, search_by, grounded, cond_at, unbound8}
 use Rattle.rules.specs.Valid.{marked, Newly, Exactly, given, Valid}
-use Rattle.rules.specs.Searching.{Match, Tested, Offered, Next, Carried, begun, further, Fits, Visits, Ends, CarriedExactly}
-use Rattle.rules.proofs.MatchFacts.{Under, Ground, row_bound, fits_of, fits_some}
+use Rattle.rules.specs.Searching.{Match, Offered, Next, Carried, begun, further, Fits, Ends, CarriedExactly}
+use Rattle.rules.proofs.MatchFacts.{Under, Ground, row_bound, fits_some}
 use Rattle.rules.proofs.ExtendFacts.{L, In, unbound_at, complete, fair_start, fair_on}
 use Rattle.rules.proofs.TestFacts.{told_in}
 use Rattle.rules.proofs.Following.{follow_of, follow_in}
@@ -41,11 +40,11 @@ module _ {F : Frame} {cs : List Constant} {ks : List ℕ} {t : L} (S : Search F 
   at_none c = record { carried = c; long = refl; marks = record { of = λ v z. z }; back = record { of = λ v z. z } }
 
   module _ {skip : ℕ} {plan : Plan} (valid : Valid F.pattern skip plan) where
-    pub begins_of : hold F plan.ground unbound8 ≡ true → Carried F t [] unbound8
-    begins_of h = begun (λ i l e. hold_of S unbound8 plan.ground h i (valid.ground.1 i (l, e)))
+    pub begins_of : hold F plan.ground_tests unbound8 ≡ true → Carried F t [] unbound8
+    begins_of h = begun (λ i l e. hold_of S unbound8 plan.ground_tests h i (valid.ground_tests.1 i (l, e)))
 
-    pub begins_in : Carried F t [] unbound8 → hold F plan.ground unbound8 ≡ true
-    begins_in c = hold_in S unbound8 plan.ground (λ i m. let n = valid.ground.0 i m in (carried_fits S c).1 i n.0 n.1)
+    pub begins_in : Carried F t [] unbound8 → hold F plan.ground_tests unbound8 ≡ true
+    begins_in c = hold_in S unbound8 plan.ground_tests (λ i m. let n = valid.ground_tests.0 i m in (carried_fits S c).1 i n.0 n.1)
 
   pub steps_of : (plan : Plan) {r : List ℕ} (τ : List ℕ) → In r (search_by F t plan τ)
       → (hold F plan.first τ ≡ true) × In r (search F t plan.steps τ)
@@ -101,7 +100,7 @@ module _ {F : Frame} {cs : List Constant} {ks : List ℕ} {t : L} (S : Search F 
   -- ---- a head that is listed
 
   record Listed (q r τ : List ℕ) : Type 0 where
-    ground : hold F plan.ground unbound8 ≡ true
+    ground_tests : hold F plan.ground_tests unbound8 ≡ true
     fit : first_match q τ
     first : hold F plan.first τ ≡ true
     found : In r (search F t plan.steps τ)
@@ -111,13 +110,13 @@ module _ {F : Frame} {cs : List Constant} {ks : List ℕ} {t : L} (S : Search F 
 
   listed_of : {q r : List ℕ} → In r (cond_at F t (fact_of q)) → (τ : List ℕ) × Listed q r τ
   unfolding cond_at grounded
-  listed_of {q} {r} m = go (ltb F.skip p.bodies) (hold F plan.ground unbound8) refl m
+  listed_of {q} {r} m = go (ltb F.skip p.bodies) (hold F plan.ground_tests unbound8) refl m
     where
-      go : (b g : Bool) → hold F plan.ground unbound8 ≡ g → In r (cond b (cond g (onward q) []) []) → (τ : List ℕ) × Listed q r τ
+      go : (b g : Bool) → hold F plan.ground_tests unbound8 ≡ g → In r (cond b (cond g (onward q) []) []) → (τ : List ℕ) × Listed q r τ
       go true true e m =
           let τ = follow_of (fits (may F) unbound8 (body_row F F.skip) (fact_of q)) (search_by F t plan) r m in
           let s = steps_of S plan τ.0 τ.2 in
-          (τ.0, record { ground = e; fit = τ.1; first = s.0; found = s.1 })
+          (τ.0, record { ground_tests = e; fit = τ.1; first = s.0; found = s.1 })
       go true false e m = absurd (Memᴰ.not-nil m)
       go false g e m = absurd (Memᴰ.not-nil m)
 
@@ -130,7 +129,7 @@ module _ {F : Frame} {cs : List Constant} {ks : List ℕ} {t : L} (S : Search F 
   heads_of : {q r : List ℕ} → Given q → In r (cond_at F t (fact_of q)) → Ended q r
   heads_of {q} {r} o m =
       let l = listed_of {q = q} m in
-      let c = starts_of o l.1.fit (begins_of S valid l.1.ground) l.1.first in
+      let c = starts_of o l.1.fit (begins_of S valid l.1.ground_tests) l.1.first in
       let v = head_visits S plan.steps l.1.found in
       let came = visits_at S (at_start c) valid.steps v.1 in
       let given = came.old (Memᴰ.head refl) in (
@@ -168,20 +167,20 @@ module _ {F : Frame} {cs : List Constant} {ks : List ℕ} {t : L} (S : Search F 
       let met : (i : ℕ) → i < p.bodies → Met S (body_fact i) θ =
       λ i l. let y = E.facts i l in let h = f.offered (body_fact i) y.0 y.1 in
       (y.0, record { among = h.among; late = h.late; row = f.no_less (body_fact i) y.0 y.1 }) in
-      let ground = hold_in S unbound8 plan.ground (λ i m. ground_on S valid m θ ∙ pass i (valid.ground.0 i m).0) in
+      let ground_tests = hold_in S unbound8 plan.ground_tests (λ i m. ground_on S valid m θ ∙ pass i (valid.ground_tests.0 i m).0) in
       let start : Under unbound8 θ = record { of = λ v. inl (unbound_at v) } in
       let row = f.no_less (body_fact F.skip) q E.given in
       let ground-places = places S (body_fact F.skip) q o.among in
       let τ =
       fits_some (may F) (body_row F F.skip) (fact_of q) unbound8 θ (S.rows F.skip there) start row
       (λ v l k. f.kinds v (row_bound (body_row F F.skip) (fact_of q) θ ground-places row v k)) in
-      let none = at_none S (begins_of S valid ground) in
+      let none = at_none S (begins_of S valid ground_tests) in
       let g = fitted S none o τ.1 in
       let marks = subst (λ (β : List ℕ). Marks β τ.0) (sym given_is) (marks_now S none o τ.1) in
       let binds = complete S.over θ (fair S f) E.whole in
       let found = plan_in_law S valid marks (fair_on S.over g (fair_start S.over)) binds (g.least θ start row) met pass in
       let first = fits (may F) unbound8 (body_row F F.skip) (fact_of q) in
-      rw (lt-ltb F.skip p.bodies there, ground) (follow_in first (search_by F t plan) r τ.0 τ.1
+      rw (lt-ltb F.skip p.bodies there, ground_tests) (follow_in first (search_by F t plan) r τ.0 τ.1
       (subst (λ (c : List ℕ). In c (search_by F t plan τ.0)) (sym E.head) found))
 
   pub carried_exactly_law : CarriedExactly F t
@@ -197,5 +196,5 @@ module _ {F : Frame} {cs : List Constant} {ks : List ℕ} {t : L} (S : Search F 
 -- so it is for each assertion of an accepted policy, over any table whose facts are ground
 pub carried_exactly : {𝒜 : List Assertion} {F : Frame} {a : Assertion} → Framed 𝒜 F a → F.skip < F.pattern.bodies → (t : L)
     → ((q : List ℕ) → In q t → Ground (fact_of q)) → CarriedExactly F t
-carried_exactly {F = F} S there t ground =
-    carried_exactly_law (framed.search S t ground) (framed.sound S.proper S.laid) there (S.plans F.skip (inr there))
+carried_exactly {F = F} S there t ground_tests =
+    carried_exactly_law (framed.search S t ground_tests) (framed.sound S.proper S.laid) there (S.plans F.skip (inr there))

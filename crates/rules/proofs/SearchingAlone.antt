@@ -45,9 +45,9 @@ module _ {F : Frame} {cs : List Constant} {ks : List ℕ} (S : Search F cs ks []
 
   heads_of : {r : List ℕ} → In r (cond_first F) → Ended r
   unfolding cond_first grounded
-  heads_of {r} m = go (eqb p.bodies 0) (hold F plan.ground unbound8) refl m
+  heads_of {r} m = go (eqb p.bodies 0) (hold F plan.ground_tests unbound8) refl m
     where
-      go : (b g : Bool) → hold F plan.ground unbound8 ≡ g → In r (cond b (cond g (search_by F [] plan unbound8) []) []) → Ended r
+      go : (b g : Bool) → hold F plan.ground_tests unbound8 ≡ g → In r (cond b (cond g (search_by F [] plan unbound8) []) []) → Ended r
       go true true e m =
           let v = head_visits S plan.steps (steps_of S plan unbound8 m).1 in
           let came = visits_at S (at_none S (begins_of S valid e)) steps v.1 in
@@ -63,11 +63,11 @@ module _ {F : Frame} {cs : List Constant} {ks : List ℕ} (S : Search F cs ks []
       let pass : (i : ℕ) → i < p.tests → Passes S θ i =
       λ i l. c.1 i l (told_in θ (p.test i) (λ v m. let k = sound.tests i l v m in E.whole v k.0 k.1)) in
       let met : (i : ℕ) → i < p.bodies → Met S (body_fact i) θ = λ i l. absurd (omega (arith, l, none)) in
-      let ground = hold_in S unbound8 plan.ground (λ i m. ground_on S valid m θ ∙ pass i (valid.ground.0 i m).0) in
+      let ground_tests = hold_in S unbound8 plan.ground_tests (λ i m. ground_on S valid m θ ∙ pass i (valid.ground_tests.0 i m).0) in
       let start : Under unbound8 θ = record { of = λ v. inl (unbound_at v) } in
       let marks : Marks (given p 0) unbound8 = subst (λ (β : List ℕ). Marks β unbound8) (sym given_none) (record { of = λ v z. z }) in
       let found = plan_in_law S valid marks (fair_start S.over) (complete S.over θ (fair S f) E.whole) start met pass in
-      rw (eq-eqb p.bodies 0 none, ground) (subst (λ (c : List ℕ). In c (search_by F [] plan unbound8)) (sym E.head) found)
+      rw (eq-eqb p.bodies 0 none, ground_tests) (subst (λ (c : List ℕ). In c (search_by F [] plan unbound8)) (sym E.head) found)
 
   pub carried_alone_law : CarriedAlone F []
   carried_alone_law = record {

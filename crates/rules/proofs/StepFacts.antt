@@ -70,7 +70,7 @@ newly_told_law n = (n.there, n.now)
 pub record Search (F : Frame) (cs : List Constant) (ks : List ℕ) (t : L) : Type 0 where
   pub over : Over F cs ks
   pub rows : (i : ℕ) → i < F.pattern.bodies → HasAll 8 (body_row F i)
-  pub ground : (q : List ℕ) → In q t → Ground (fact_of q)
+  pub ground_tests : (q : List ℕ) → In q t → Ground (fact_of q)
 
 module _ {F : Frame} {cs : List Constant} {ks : List ℕ} {t : L} (S : Search F cs ks t) where
   abbrev p : Pattern
@@ -98,7 +98,7 @@ module _ {F : Frame} {cs : List Constant} {ks : List ℕ} {t : L} (S : Search F 
 
   pub places : (part : Part) (y : List ℕ) → In y (source_of F t part) → Ground (places_of F part y)
   unfolding source_of
-  places (body_fact i) y m = S.ground y m
+  places (body_fact i) y m = S.ground_tests y m
   places (variable v) y m =
       let c = Memᴰ.of_map single (upto 0 (length F.kinds)) m in
       let u = upto_of (length F.kinds) 0 c.0 c.1 in

@@ -51,8 +51,8 @@ module _ (p : Pattern) where
 
   pub tested_once : {skip : ℕ} {plan : Plan} → Valid p skip plan → TestedOnce plan
   tested_once {skip} {plan} v = record {
-    ground = λ i m k. true≢false (sym (v.ground.0 i m).1 ∙ (v.first.0 i k).before);
-    later = λ i m s k h. true≢false (sym (v.ground.0 i m).1
+    ground_tests = λ i m k. true≢false (sym (v.ground_tests.0 i m).1 ∙ (v.first.0 i k).before);
+    later = λ i m s k h. true≢false (sym (v.ground_tests.0 i m).1
         ∙ told_grows (given_grows skip) (p.test i) (untold plan.steps (given p skip) v.steps s k i h));
     first = λ i m s k h. true≢false (sym (v.first.0 i m).now ∙ untold plan.steps (given p skip) v.steps s k i h);
     steps = apart plan.steps (given p skip) v.steps;

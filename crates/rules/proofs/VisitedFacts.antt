@@ -1,14 +1,13 @@
 -- Along a plan that is right, a step carries a binding on by an entry exactly if the match fits and every constraint whose variables are all bound holds:
 -- it tests those whose last variable it binds, and the others held before. So the search comes to bindings that are carried, and to no others.
 use mathlib.Core.Path.{◌≡◌, refl, sym, ap, subst, ◌∙◌}
-use mathlib.Core.Logic.{◌⊎◌, inl, inr, ⊎_elim, ◌≢◌, ◌↔◌}
+use mathlib.Core.Logic.{◌⊎◌, inl, inr, ⊎_elim, ◌↔◌}
 use mathlib.Core.Bool.{Bool, true, false, true≢false}
 use mathlib.Core.Option.{some}
 use mathlib.Core.List.Memᴰ
 use mathlib.Core.List.{List, [], ◌∷◌, ◌++◌, Memᴰ}
-use Prim.Native.Nat.{ℕ, ◌<◌}
+use Prim.Native.Nat.{ℕ}
 use native.Mathlib.Decide.{ℕ_discrete}
-use native.Mathlib.Omega.{arith}
 use lib.ListN.{length}
 use Rattle.model.specs.Limits.{unbound}
 use Rattle.model.specs.Lists.{each}
@@ -16,17 +15,17 @@ use Rattle.model.specs.Syntax.{var, Constraint, Constant}
 use Rattle.model.specs.Values as P
 use Rattle.model.proofs.ListFacts.{each_of}
 use Rattle.constraints.specs.Told.{told_both}
-use Rattle.rules.specs.Matching.{at, fits, first_only, first_of, or_next}
+use Rattle.rules.specs.Matching.{at, fits, first_of, or_next}
 use Rattle.rules.specs.Plan.{Part, Mode, every, enough, once, look, finds, Step}
 use Rattle.rules.specs.Patterns.{Pattern, Frame}
 use Rattle.rules.specs.Cond.{may, row_of, places_of, source_of, hold, go_on, carried, search, head_entry, unbound8}
-use Rattle.rules.specs.Valid.{marked, exprs_of, There, Newly, Exactly, after, Right, Steps}
-use Rattle.rules.specs.Searching.{Match, Tested, Offered, Next, Carried, begun, further, Fits, Goes, all, first_found, first, looked, Visits, here, step}
-use Rattle.rules.proofs.MatchFacts.{Under, Fitted, fits_of}
-use Rattle.rules.proofs.ExtendFacts.{L, In, Fair, unbound_at}
+use Rattle.rules.specs.Valid.{marked, exprs_of, Newly, Exactly, after, Right, Steps}
+use Rattle.rules.specs.Searching.{Match, Tested, Offered, Next, Carried, further, Fits, Goes, all, first_found, first, looked, Visits, here, step}
+use Rattle.rules.proofs.MatchFacts.{Fitted, fits_of}
+use Rattle.rules.proofs.ExtendFacts.{L, In, Fair}
 use Rattle.rules.proofs.TestFacts.{passes_same, told_bound, told_in}
 use Rattle.rules.proofs.Following.{onward}
-use Rattle.rules.proofs.StepFacts.{Marks, Search, Passes, places, has, in_row, of_row, carried_of, carried_by_law, part_marks, hold_of, hold_in}
+use Rattle.rules.proofs.StepFacts.{Marks, Search, places, has, of_row, carried_of, carried_by_law, part_marks, hold_of, hold_in}
 use Rattle.rules.proofs.MarkFacts.{marked_long, marked_grows, marked_in, told_grows}
 use Rattle.rules.proofs.ModeFacts.{small}
 use Rattle.rules.proofs.CarriedFacts.{carried_fits}
@@ -205,7 +204,7 @@ module _ {F : Frame} {cs : List Constant} {ks : List ℕ} {t : L} (S : Search F 
   visits_at {β} {ms} A w here = record { β = β; matches = ms; now = A; steps = w; old = λ k. k; new = λ s m e. inl m }
   visits_at {β} {ms} A w (step {s} {ss} {ss'} g v) =
       let one = goes_at A w.0 g in
-      let rest = visits_at one.now w.1 v in
+      let rest = visits_at {β = after p s.mode s.part β} one.now w.1 v in
       record {
         β = rest.β;
         matches = rest.matches;

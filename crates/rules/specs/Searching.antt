@@ -12,7 +12,7 @@ use Rattle.model.specs.Values.{bound}
 use Rattle.constraints.specs.Told.{told_both}
 use Rattle.fact.specs.Places.{fact_of}
 use Rattle.rules.specs.Matching.{at, fits}
-use Rattle.rules.specs.Plan.{Part, body_fact, variable, Mode, every, enough, once, look, finds, Step, Plan}
+use Rattle.rules.specs.Plan.{Part, body_fact, Mode, every, enough, once, look, finds, Step, Plan}
 use Rattle.rules.specs.Patterns.{Frame}
 use Rattle.rules.specs.Cond.{may, row_of, places_of, is_late, source_of, hold, carried, search, head_entry, cond_at, cond_first, unbound8}
 use Rattle.rules.specs.Valid.{There}
@@ -26,8 +26,8 @@ Apart (s ∷ ss) = (finds s.mode ≡ true → (i : ℕ) → Memᴰ i s.tests →
 
 -- looks apart, a constraint is tested in one place of a plan only
 pub record TestedOnce (plan : Plan) : Type 0 where
-  pub ground : (i : ℕ) → Memᴰ i plan.ground → Memᴰ i plan.first → ⊥
-  pub later : (i : ℕ) → Memᴰ i plan.ground → (s : Step) → Memᴰ s plan.steps → Memᴰ i s.tests → ⊥
+  pub ground_tests : (i : ℕ) → Memᴰ i plan.ground_tests → Memᴰ i plan.first → ⊥
+  pub later : (i : ℕ) → Memᴰ i plan.ground_tests → (s : Step) → Memᴰ s plan.steps → Memᴰ i s.tests → ⊥
   pub first : (i : ℕ) → Memᴰ i plan.first → (s : Step) → Memᴰ s plan.steps → Memᴰ i s.tests → ⊥
   pub steps : Apart plan.steps
 
@@ -102,7 +102,7 @@ module _ (F : Frame) (t : List (List ℕ)) where
     -- "a partial binding is carried on exactly if what is matched so far fits and every constraint whose variables are all bound holds"
     pub fit : (ms : List Match) (θ : List ℕ) → Carried ms θ ↔ (Fits ms θ × Tested θ)
     -- "one without variables is tried before the first body fact": what is tested before anything is matched, and with the given fact
-    pub begins : (hold F along.ground unbound8 ≡ true) ↔ Carried [] unbound8
+    pub begins : (hold F along.ground_tests unbound8 ≡ true) ↔ Carried [] unbound8
     pub starts : {q τ : List ℕ} → Offered (body_fact F.skip) q → fits (may F) unbound8 (row_of F (body_fact F.skip)) (fact_of q) ≡ some τ
         → Carried [] unbound8 → (hold F along.first τ ≡ true) ↔ Carried (given q ∷ []) τ
     -- wherever the search comes to, its binding is carried, and a step carries it on by y to just the binding to which it goes on so
@@ -126,7 +126,7 @@ module _ (F : Frame) (t : List (List ℕ)) where
     pub head : r ≡ head_entry F θ
 
   pub record CarriedAlone : Type 0 where
-    pub begins : (hold F alone.ground unbound8 ≡ true) ↔ Carried [] unbound8
+    pub begins : (hold F alone.ground_tests unbound8 ≡ true) ↔ Carried [] unbound8
     pub visited : {θ : List ℕ} {ss : List Step} → Carried [] unbound8 → Visits alone.steps unbound8 ss θ → (ms : List Match) × Carried ms θ
     pub stepped : {θ : List ℕ} {s : Step} {ss : List Step} → Carried [] unbound8 → Visits alone.steps unbound8 (s ∷ ss) θ
         → {y σ : List ℕ} → Offered s.part y → Memᴰ σ (carried F s θ y) ↔ Next θ s.part y σ

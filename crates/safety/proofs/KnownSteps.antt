@@ -82,7 +82,8 @@ module _ (sg s : List ℕ) where
 
       pub known_not_free : y ≡ Not → z ≡ needed (marked (free (tree_in sg s (d - 1) (at + 1))) none) m m → z.safe ≡ false → z ≡ known_in (tree_in sg s d at) m
       unfolding known_in
-      known_not_free g b o = rw (tree_not sg s d at y n l e g) (known_no _ z (λ _. known_then (known_in (tree_in sg s (d - 1) (at + 1)) m) (λ _. safe_with m)) b o)
+      known_not_free g b o = rw (tree_not sg s d at y n l e g)
+          (known_no _ z (λ _. known_then (known_in (tree_in sg s (d - 1) (at + 1)) m) (λ _. safe_with m)) b o)
 
       pub known_exists : (q : Known) → y ≡ Exists → get_or m (byte_at s (at + 1)) 0 ≡ 0 → q ≡ known_in (tree_in sg s (d - 1) (at + 2)) m
           → z ≡ known_then q (dropped (byte_at s (at + 1))) → z ≡ known_in (tree_in sg s d at) m
@@ -115,7 +116,8 @@ module _ (sg s : List ℕ) where
       pub all_stop : y.safe ≡ false → y ≡ known_all_in (nodes_in d n at) m
       unfolding known_all_in
       all_stop o =
-          rw (nodes_more (tree_in sg s d) (end_in sg s d) n at (end_in sg s d at) x refl) (known_no _ y (known_all_in (nodes_in d (n - 1) (end_in sg s d at))) a o)
+          rw (nodes_more (tree_in sg s d) (end_in sg s d) n at (end_in sg s d at) x refl)
+          (known_no _ y (known_all_in (nodes_in d (n - 1) (end_in sg s d at))) a o)
 
       pub any_more : (q z : Known) (p : ℕ) → y.safe ≡ true → p ≡ end_in sg s d at → q ≡ known_any_in (nodes_in d (n - 1) p) m
           → z ≡ known_then q (λ w. safe_with (meet 8 y.of w)) → z ≡ known_any_in (nodes_in d n at) m

@@ -13,7 +13,6 @@ use lib.Seq.{ext_get_or}
 use lib.Dec.{eqb}
 use Rattle.model.specs.Lists.{all, keep, member, among, without, apart}
 use Rattle.model.specs.Syntax.{flat, can_say, Node, Nodes, says, test, all_of, any_of, non, exists, end, more, vars_of, vars_in, vars_test}
-use Rattle.model.specs.Kinds.{variables}
 use Rattle.model.specs.Requests.{free, free_all}
 use Rattle.model.specs.Safety.{provided, onward, known, known_all, known_any, binders, binders_all, is_safe, safe_request}
 use Rattle.model.specs.Bytes.{choose}
@@ -165,7 +164,8 @@ mutual
   known_is (says e (flat s v ps)) vs h =
       ap safe_with
       (ap (marked (vars_in (flat s v ps))) (added (vars_of e) vs) ∙ added (vars_in (flat s v ps)) (vars_of e ++ vs)
-      ∙ same_marks (vars_in (flat s v ps) ++ (vars_of e ++ vs)) (vars_of e ++ vars_in (flat s v ps) ++ vs) (λ w. swapped w (vars_in (flat s v ps)) (vars_of e) vs))
+      ∙ same_marks (vars_in (flat s v ps) ++ (vars_of e ++ vs)) (vars_of e ++ vars_in (flat s v ps) ++ vs)
+      (λ w. swapped w (vars_in (flat s v ps)) (vars_of e) vs))
   known_is (says e (can_say s d f)) vs h =
       needed_is (vars_in (can_say s d f)) vs (marked (vars_of e) (marked vs none)) (λ w m. h w (Memᴰ.append_right (vars_of e) m))
       ∙ ap (λ (u : List ℕ). choose (among (vars_in (can_say s d f)) vs) (safe_with u) not_safe) (added (vars_of e) vs)

@@ -82,7 +82,8 @@ module _ (sg s : List ℕ) where
     free_past l = rw (tree_past sg s d at l)
 
     module _ (y : Shape) (z : List ℕ) (n : d ≡ 0 → ⊥) (l : at < length s) (e : y ≡ shape_at s at) where
-      pub free_says : y ≡ Says → z ≡ marked (vars_in (fact_by sg s (at + 3))) (marked (vars_of (expr_at s (at + 1))) m) → z ≡ marked (free (tree_in sg s d at)) m
+      pub free_says : y ≡ Says → z ≡ marked (vars_in (fact_by sg s (at + 3))) (marked (vars_of (expr_at s (at + 1))) m) → z ≡ marked
+          (free (tree_in sg s d at)) m
       free_says g h = rw (tree_says sg s d at y n l e g) (h ∙ sym (marked_append (vars_of (expr_at s (at + 1))) (vars_in (fact_by sg s (at + 3))) m))
 
       pub free_test : y ≡ Test → z ≡ marked (vars_test (constraint_at s (at + 1))) m → z ≡ marked (free (tree_in sg s d at)) m

@@ -1,4 +1,6 @@
 // Safe requests. A set of variables is eight marks.
+#![tactic(auto)]
+
 ghost use Rattle.std.specs.Prelude.{◌≡◌, ◌+◌, ◌≤◌, ◌<◌, length};
 ghost use Rattle.model.specs.Limits.{max_depth, first_node_at};
 ghost use Rattle.model.specs.Syntax.{vars_of, vars_in, vars_test};
@@ -18,14 +20,14 @@ use nodes::tree::Shape;
 use phrases::marks;
 
 // Whether a node is safe where some variables are known before, and those known after it.
-#[derive(Drop)]
+#[derive(Clone, Copy)]
 pub struct Known {
     pub safe: bool,
     pub of: [u8; VARIABLES],
 }
 
 // Whether the request is safe, its free variables, and all that it uses, free or bound.
-#[derive(Drop)]
+#[derive(Clone, Copy)]
 pub struct Judged {
     pub safe: bool,
     pub free: [u8; VARIABLES],

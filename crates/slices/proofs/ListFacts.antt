@@ -7,11 +7,10 @@ use mathlib.Core.List.{List, [], ◌∷◌, ◌++◌, Memᴰ}
 use Prim.Native.Nat.{ℕ, zero, suc, ◌+◌, ◌-◌, ◌<◌, ◌≤◌}
 use native.Mathlib.Numerals.{sub-one, add-one}
 use native.Mathlib.Omega.{arith}
-use lib.Dec.{ltb}
 use lib.ListN.{length, get_or, length-map}
 use borrow.Author.Tests.{ltb-false}
 use Rattle.wire.proofs.Reading.{choose_true, choose_false}
-use Rattle.model.specs.Bytes.{byte_at, u16_at, choose, both, Reading, got, refused, and_then}
+use Rattle.model.specs.Bytes.{byte_at, u16_at, choose, Reading, got, refused, and_then}
 use Rattle.model.specs.Lists.{any}
 use Rattle.model.specs.Readings.{item_end, ends_by}
 use Rattle.model.proofs.ReadFacts.{and_then_got, choose_yes}

@@ -1,11 +1,13 @@
 // What every slice has: version and length, lists led by a count, and an end.
+#![tactic(auto)]
+
 ghost use Rattle.std.specs.Prelude.{◌≡◌, true, ◌+◌, ◌≤◌, length};
 ghost use Rattle.model.specs.Policies.{version_there, length_right};
 ghost use Rattle.wire.specs.Budget.{farthest, longest};
 ghost use Rattle.slices.specs.Steps.{count_right, ended_at};
 
 // Where reading goes on, or a refusal's number and place.
-#[derive(Drop)]
+#[derive(Clone, Copy)]
 pub enum Step {
     Next(usize),
     Refused(u8, usize),

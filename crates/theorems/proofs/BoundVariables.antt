@@ -1,7 +1,6 @@
 -- The computed bindings are those that give each variable a constant of its kind, under some choice of kinds that fits; of an assertion.
 use mathlib.Core.Path.{◌≡◌, refl, sym, ap, subst, ◌∙◌}
 use mathlib.Core.Logic.{◌↔◌}
-use mathlib.Core.Option.{some}
 use mathlib.Core.List.Memᴰ
 use mathlib.Core.List.{List, [], ◌∷◌, ◌++◌, map, Memᴰ}
 use mathlib.Core.Bool.{Bool, true, false, cond, ◌||◌, not}
@@ -14,7 +13,7 @@ use Rattle.model.specs.Limits.{unbound, quantity, principal}
 use Rattle.model.specs.Lists.{all, each, member}
 use Rattle.model.specs.Syntax.{Expr, con, var, today, Fact, flat, can_say, Constant, Verb, Policy, Assertion, vars_of}
 use Rattle.model.specs.Kinds.{no_constant, kind_at, Demands, demands_of, places, pair, param_kinds, in_place, comparable, meets, fitting, kind_of}
-use Rattle.model.specs.Kinds.{variables, kinds}
+use Rattle.model.specs.Kinds.{variables}
 use Rattle.model.specs.Values.{choices, of_kind, bindings, bindings_of}
 use Rattle.model.specs.Forms.{is_kind}
 use Rattle.theorems.specs.Binding.{Fits, Binds, in_places}

@@ -4,7 +4,7 @@ use mathlib.Core.Logic.{◌↔◌, ◌⊎◌, inl, inr, ⊎_elim}
 use mathlib.Core.Option.{Option, some}
 use mathlib.Core.List.{List, [], ◌∷◌, ◌++◌, Memᴰ, append_assoc}
 use mathlib.Core.Bool.{Bool, true, false, ◌&&◌, ◌||◌, not}
-use Prim.Native.Nat.{ℕ, ◌+◌}
+use Prim.Native.Nat.{ℕ}
 use native.Mathlib.Omega.{arith}
 use lib.ListN.{get_or, length}
 use lib.Dec.{T, eqb}
@@ -18,7 +18,7 @@ use Rattle.model.proofs.SafetyRules.{provided_of, onward_of, is_safe_of}
 use Rattle.model.proofs.CheckedNodes.{Some, Sound, SoundAll, node_checked}
 use Rattle.model.specs.Limits.{unbound, version}
 use Rattle.model.specs.Kinds.{kinds, kind_at, in_place, comparable}
-use Rattle.model.specs.Kinds.{Demands, no_demands, demands_in, demands_all, places, pair, param_kinds, fitting, kind_of, variables}
+use Rattle.model.specs.Kinds.{Demands, no_demands, demands_in, demands_all, places, pair, param_kinds, fitting, kind_of}
 use Rattle.model.specs.Forms.{is_kind}
 use Rattle.theorems.specs.Binding.{Fits, Binds}
 use Rattle.model.proofs.ListFacts.{and_of, all_of_law, or_right, keep_of, member_of, member_in}

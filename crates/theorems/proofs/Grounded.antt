@@ -7,7 +7,7 @@ use native.Mathlib.Omega.{arith}
 use lib.ListN.{length, get_or}
 use lib.Dec.{T, eqb, leb, leb→le, eqb→eq}
 use Rattle.model.specs.Limits.{principal, quantity, unlimited, unbound, can_act_as}
-use Rattle.model.specs.Lists.{all, each, member}
+use Rattle.model.specs.Lists.{all, member}
 use Rattle.model.specs.Syntax.{Expr, con, var, today, Fact, flat, can_say, map_fact, about, Assertion, Constant, Verb}
 use Rattle.model.specs.Syntax.{Policy, World, Read, world_in, Said, said, vars_of}
 use Rattle.model.specs.Kinds.{kind_at, param_kinds, Demands, demands_of, places, pair, in_place, comparable, fitting}

@@ -8,8 +8,8 @@ use native.Mathlib.Omega.{arith}
 use native.Mathlib.Decide.{dec_lt}
 use lib.ListN.{length, get_or, get_or-eq_default}
 use Rattle.model.specs.Limits.{unbound, answer_bytes}
-use Rattle.model.specs.Lists.{all, each}
-use Rattle.model.specs.Syntax.{today, Assertion, Withdrawal, Link, Constant, Verb, Policy, Request, Node, World, world_of, with_hierarchy, Read, world_in}
+use Rattle.model.specs.Lists.{all}
+use Rattle.model.specs.Syntax.{Assertion, Withdrawal, Constant, Verb, Policy, Node, World, world_of, with_hierarchy, Read, world_in}
 use Rattle.model.specs.Kinds.{no_constant, demands_in, in_place, comparable}
 use Rattle.model.specs.Closure.{Derives, First}
 use Rattle.model.specs.Rules.{Rule}
@@ -26,7 +26,7 @@ use Rattle.model.specs.Reached.{issued_in, reach, counting}
 use Rattle.model.specs.Deciding.{outcome, decide, read, counted_in}
 use Rattle.model.specs.Decision.{Slices, Lent, allow, deny, refusal, Report, capacity, room, at_front, word, reported, decision}
 use Rattle.theorems.specs.Theorems as Q
-use Rattle.model.specs.Inputs.{Inputs, InputsBySlice, ReadAs, AskedAs, Adds, without_entries}
+use Rattle.model.specs.Inputs.{Inputs, InputsBySlice, ReadAs, Adds, without_entries}
 use Rattle.theorems.specs.Theorems.{Longer, with_policy, with_withdrawals}
 use Rattle.model.specs.Inputs.{answer_in, MeantBy}
 use Rattle.theorems.specs.Theorems.{IsDecision, ListedIn}
@@ -327,7 +327,8 @@ growing_by_version l other R h a p d d' θ k = listed_more l (with_policy other 
     more : AnswerIn R₂ θ → AnswerIn R₁ θ
     more s = (
       s.0,
-      holds_more (world_in R₂) (world_in R₁) refl refl (kinds_in (world_in R) n) (DerivableIn R₂) (DerivableIn R₁) (λ y z. derives_more (rule_in_first R) z) n θ p
+      holds_more (world_in R₂) (world_in R₁) refl refl (kinds_in (world_in R) n) (DerivableIn R₂) (DerivableIn R₁)
+          (λ y z. derives_more (rule_in_first R) z) n θ p
           s.1,
     )
 

@@ -4,7 +4,7 @@ use mathlib.Core.List.Memᴰ
 use mathlib.Core.List.{List, Memᴰ}
 use Prim.Native.Nat.{ℕ, zero, suc}
 use lib.Dec.{T}
-use Rattle.model.specs.Syntax.{Expr, Fact, flat, can_say, Constraint, Assertion, World, Said, Read, world_in}
+use Rattle.model.specs.Syntax.{Expr, Fact, flat, can_say, Assertion, World, Said, Read, world_in}
 use Rattle.model.specs.Versions.{carries}
 use Rattle.model.specs.Values.{passes}
 use Rattle.model.specs.Closure.{Within}

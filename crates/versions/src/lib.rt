@@ -1,4 +1,6 @@
 // What the version of a policy chooses (request 06): the one place where versions are compared.
+#![tactic(auto)]
+
 ghost use Rattle.std.specs.Prelude.{◌≡◌};
 ghost use Rattle.model.specs.Versions.{carries_saying, names_actors};
 

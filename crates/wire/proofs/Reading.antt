@@ -1,7 +1,7 @@
 -- Laws by which `search reading` closes what a reader's `return` asks: that its answer is what a specification by `choose` says there.
-use mathlib.Core.Path.{◌≡◌, refl, sym, ◌∙◌, ap}
+use mathlib.Core.Path.{◌≡◌, refl, sym, ◌∙◌}
 use mathlib.Core.Bool.{Bool, true, false, ◌&&◌, ◌||◌, not, false≢true}
-use Prim.Native.Nat.{ℕ, zero, suc, ◌≤◌, ◌<◌}
+use Prim.Native.Nat.{ℕ, zero, suc, ◌≤◌}
 use lib.Dec.{ltb, leb, eqb}
 use lib.ListN.{length, get_or}
 use mathlib.Core.List.{List, [], ◌∷◌}

@@ -1,4 +1,6 @@
 // Big-endian numbers and labels in a byte slice.
+#![tactic(auto)]
+
 ghost use Rattle.std.specs.Prelude.{◌≡◌, ◌+◌, ◌<◌, ◌≤◌, length};
 ghost use Rattle.model.specs.Bytes.{byte_at, u16_at, u32_at, bytes_at};
 ghost use Rattle.model.specs.Lists.{all};

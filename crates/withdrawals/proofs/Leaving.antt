@@ -13,7 +13,7 @@ use Rattle.model.proofs.Tests.{and_true}
 use Rattle.model.specs.Limits.{first_variable, today_code}
 use Rattle.model.specs.Lists.{only, all}
 use Rattle.model.specs.Syntax.{con, var, today, World}
-use Rattle.model.specs.Bytes.{u16_at, u32_at, choose, both}
+use Rattle.model.specs.Bytes.{u16_at, u32_at, choose}
 use Rattle.model.specs.Values.{passes}
 use Rattle.model.specs.Readings.{expr_of, constraint_at, constraints_at}
 use Rattle.model.specs.Withdrawals.{is_constant, no_binding}

@@ -2,7 +2,7 @@
 use mathlib.Core.Path.{◌≡◌, refl, sym, ◌∙◌, ap, ap₂}
 use mathlib.Core.Bool.{Bool, true, false}
 use mathlib.Core.List.Memᴰ
-use mathlib.Core.List.{List, [], ◌∷◌, ◌++◌, Memᴰ}
+use mathlib.Core.List.{List, [], ◌∷◌, ◌++◌}
 use Prim.Native.Nat.{ℕ, zero, suc, ◌+◌, ◌-◌, ◌≤◌, ◌<◌}
 use native.Mathlib.Decide.{dec_lt}
 use native.Mathlib.Omega.{arith}
@@ -10,20 +10,19 @@ use lib.Dec.{eqb, ltb, eqb-suc-zero}
 use lib.ListN.{length}
 use borrow.Author.Tests.{lt-ltb, le-ltb, ne_eqb}
 use Rattle.wire.proofs.Reading.{choose_true, choose_false}
-use Rattle.model.specs.Limits.{principal, first_variable, today_code, max_withdrawals, version, length_at, header_bytes}
+use Rattle.model.specs.Limits.{first_variable, today_code, max_withdrawals, version, length_at, header_bytes}
 use Rattle.model.specs.Lists.{each}
-use Rattle.model.specs.Syntax.{Expr, con, var, today, Withdrawal, Constant, Verb, vars_of, vars_test, vars_withdrawal}
+use Rattle.model.specs.Syntax.{con, var, today, Withdrawal, Constant, Verb, vars_of, vars_test, vars_withdrawal}
 use Rattle.model.specs.Kinds.{withdrawal_demands, fitting}
 use Rattle.model.specs.Bytes.{byte_at, u16_at, choose, both, Reading, got, refused, and_then}
 use Rattle.model.specs.Readings.{expr_of, expr_at, constraints_at}
-use Rattle.model.specs.Forms.{operators_form}
 use Rattle.model.specs.Policies.{Item, contents, version_there, length_right, headed, ended, items_from, list_at}
 use Rattle.model.specs.Entries.{withdrawal_end, withdrawal_at, withdrawal_form, withdrawal_item, computed_withdrawals, read_withdrawals}
 use Rattle.model.proofs.EntryReader.{withdrawals_is}
 use Rattle.model.proofs.ReadFacts.{choose_yes, and_then_got}
 use Rattle.model.proofs.Tests.{T_true}
 use Rattle.kinds.specs.Cells.{Ask, same, feed, nothing}
-use Rattle.kinds.specs.Asks.{kind_term, ask_test, asks_for, Regular}
+use Rattle.kinds.specs.Asks.{kind_term, asks_for}
 use Rattle.kinds.proofs.Model.{fits}
 use Rattle.phrases.specs.Tables.{Tables}
 use Rattle.phrases.proofs.Model as phrase
@@ -31,7 +30,6 @@ use Rattle.phrases.proofs.Ends.{operators_regular}
 use Rattle.slices.specs.declared.Step.{Step}
 use Rattle.slices.specs.declared.Step.TheVariants.{Next, Refused}
 use Rattle.slices.specs.Steps.{step, then_step, count_right, ended_at}
-use Rattle.slices.specs.Items.{items_at}
 use Rattle.slices.proofs.ListFacts.{Reads, list_is, list_got, contents_length}
 use Rattle.withdrawals.specs.declared.Withdrawals.{Withdrawals}
 use Rattle.withdrawals.specs.Reading.{refusal, handed_out, closed_expr, test_closed, tests_closed, closed_at, entry_asks, judged_by, entry_by, entries_by}
@@ -235,7 +233,8 @@ entries_read cs s ws e h =
     let a = choose_yes _ _ 1 0 ws e (sym (withdrawals_is cs s) ∙ h) in
     let b = choose_yes _ _ 2 length_at ws e a.1 in
     let r = counted b.1 in
-    let n : length ws ≡ u16_at s header_bytes = ap length r.0 ∙ contents_length (withdrawal_at s) (withdrawal_end s) (u16_at s header_bytes) (header_bytes + 2) in
+    let n : length ws ≡ u16_at s header_bytes = ap length r.0 ∙ contents_length (withdrawal_at s) (withdrawal_end s) (u16_at s header_bytes)
+    (header_bytes + 2) in
     (r.0 ∙ ap (λ (n : ℕ). entries_at s n 7) (sym n), omega (arith, r.1))
   where
     counted : and_then (list_at s 0 max_withdrawals (withdrawal_item cs s) header_bytes) (λ ws e. ended s (contents ws) e) ≡ got ws e

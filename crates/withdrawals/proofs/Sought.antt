@@ -104,7 +104,8 @@ module _ {s ats links : List ℕ} {count : ℕ} (L : Linked s ats links count) w
     named_from i = any named_entry (walk links buckets i)
 
     -- the chain of their bucket is enough
-    pub chain_all : (b i : ℕ) → b ≡ bucket_of issuer serial → b < buckets → i ≡ get_or links b 0 → named_from i ≡ any (named_at s issuer serial) (take count ats)
+    pub chain_all : (b i : ℕ) → b ≡ bucket_of issuer serial → b < buckets → i ≡ get_or links b 0 → named_from i ≡ any (named_at s issuer serial)
+        (take count ats)
     chain_all b i e l d =
         ap named_from d ∙ (ap (any named_entry) (L.chained.lists b l)
         ∙ (walked_any (λ (j : ℕ). get_or ats (j - 1) 0) (bucket_at s) b (named_at s issuer serial) (λ at n. apart s issuer serial at (λ q. n (q ∙ sym e)))

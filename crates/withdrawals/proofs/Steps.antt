@@ -5,12 +5,10 @@ use mathlib.Core.List.{List}
 use Prim.Native.Nat.{ℕ, zero, suc, ◌+◌, ◌-◌, ◌≤◌}
 use native.Mathlib.Numerals.{sub-one}
 use native.Mathlib.Omega.{arith}
-use lib.Dec.{ltb}
 use lib.ListN.{length}
 use borrow.Author.Tests.{ltb-false}
-use Rattle.model.specs.Limits.{version, length_at, header_bytes}
+use Rattle.model.specs.Limits.{header_bytes}
 use Rattle.model.specs.Bytes.{u16_at, choose, both}
-use Rattle.model.specs.Policies.{version_there, length_right}
 use Rattle.model.specs.Entries.{withdrawal_end, withdrawal_form}
 use Rattle.kinds.specs.Cells.{feed, nothing, alike}
 use Rattle.kinds.specs.declared.Fit.{Fit}

@@ -1,5 +1,5 @@
 -- Which assertions are left, by offsets: an assertion is known by where its item and its issuer stand in the policy.
-use Rattle.std.specs.Prelude.{◌≡◌, List, [], ◌∷◌, ◌++◌, Bool, ◌&&◌, not, ℕ, ◌+◌, ◌<◌, ◌≤◌, length, get_or, eqb}
+use Rattle.std.specs.Prelude.{List, [], ◌∷◌, ◌++◌, Bool, ◌&&◌, not, ℕ, ◌+◌, ◌<◌, ◌≤◌, length, get_or, eqb}
 use Rattle.model.specs.Lists.{only, any}
 use Rattle.model.specs.Syntax.{Withdrawal, World}
 use Rattle.model.specs.Bytes.{u16_at, u32_at}

@@ -20,7 +20,7 @@ const ITEM_SERIAL: usize = 2;
 const BUCKETS: usize = 256;
 
 // How many there are of each, and the request's today.
-#[derive(Drop)]
+#[derive(Clone, Copy)]
 pub struct Counts {
     pub constants: usize,
     pub assertions: usize,
@@ -196,6 +196,7 @@ fn pick(
 
 // Of the assertions whose items and issuers stand at these offsets those that are left, in their order: their issuers' offsets come to the front, and this is
 // how many they are. Nothing is done where there are no entries.
+#[inline(never)]
 pub fn left(
     issuers: &mut [usize],
     items: &[usize],

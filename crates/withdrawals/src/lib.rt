@@ -1,5 +1,7 @@
 // Withdrawals (request 02): the reader of the slice, and which assertions are left.
 // An entry has no length: issuer, serial, the count of its constraints, and these.
+#![tactic(auto)]
+
 ghost use Rattle.std.specs.Prelude.{◌≡◌, List, ℕ, ◌+◌, ◌*◌, ◌≤◌, length};
 ghost use Rattle.model.specs.Syntax.{Constant, Verb};
 ghost use Rattle.model.specs.Entries.{withdrawal_end, withdrawal_form, read_withdrawals};
@@ -26,7 +28,7 @@ const TESTS: usize = 7;
 const FIRST: usize = HEADER + 2;
 
 // What the reader hands out: how many entries there are, or why the slice is refused.
-#[derive(Drop)]
+#[derive(Clone, Copy)]
 pub struct Withdrawals {
     // 0: accepted
     pub refusal: u8,

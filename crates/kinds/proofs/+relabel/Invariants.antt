@@ -1,0 +1,4 @@
+use Rattle.kinds.proofs.+relabel.Given as goal
+
+abbrev pub decreases-relabel : goal.decreases-relabel
+decreases-relabel l = l.n

@@ -1,0 +1,44 @@
+-- `verbs::item` meets its contract: form first, then whether one is alike.
+use native.Mathlib.Omega.{arith}
+use Rattle.wire.proofs.Reading.{via}
+use Rattle.model.specs.Readings.{item_end}
+use Rattle.model.specs.Policies.{verb_item}
+use Rattle.names.proofs.FormFacts.{verb_within}
+use Rattle.slices.proofs.ListFacts.{item_end_law}
+use Rattle.names.proofs.ItemFacts.{item_form, item_alike, item_new}
+use Rattle.names.proofs.verbs.item.Goals as goal
+
+pub seen-requires : goal.seen-requires
+seen-requires c =
+    let given = c.requires in
+    (via c.verb_form.ensures c.if-verb_form.true, (given.0, given.1, given.2, omega (arith, given.3)))
+
+pub returns-then-seen : goal.returns-then-seen
+unfolding verb_item
+returns-then-seen c =
+    λ p k listed. item_alike _ _ _ _ _ (via c.verb_form.ensures c.if-verb_form.true)
+    (via (c.seen.ensures p k listed) c.if-seen.true)
+
+pub overflow_add-result : goal.overflow_add-result
+unfolding item_end
+overflow_add-result c = omega (arith, verb_within _ _ (via c.verb_form.ensures c.if-verb_form.true))
+
+pub byte-requires : goal.byte-requires
+unfolding item_end
+byte-requires c = omega (arith, verb_within _ _ (via c.verb_form.ensures c.if-verb_form.true))
+
+pub overflow_add-result-then-verb_form : goal.overflow_add-result-then-verb_form
+unfolding item_end
+overflow_add-result-then-verb_form c = omega (arith, verb_within _ _ (via c.verb_form.ensures c.if-verb_form.true))
+
+pub returns-then-verb_form : goal.returns-then-verb_form
+unfolding verb_item
+returns-then-verb_form c =
+    λ p k listed.
+    item_new _ _ _ _ _ (via c.verb_form.ensures c.if-verb_form.true)
+    (via (c.seen.ensures p k listed) c.if-seen.false) _
+    (item_end_law c.args.s.now _ _ c.byte.ensures.0)
+
+pub returns : goal.returns
+unfolding verb_item
+returns c = λ p k listed. item_form _ _ _ _ _ (via c.verb_form.ensures c.if-verb_form.false)
