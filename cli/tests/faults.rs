@@ -1,6 +1,7 @@
 //! What the tool says of a text that is not right: line, column, words. A refusal of the engine is shown at its item.
 use std::path::PathBuf;
 use std::process::Command;
+use std::sync::atomic::{AtomicUsize, Ordering};
 
 const NAMES: &str = "principal Works, North, arm\nthing encoder, arm\nverb is-fitter\nverb may-order thing\nverb permit-from day\n";
 
@@ -26,9 +27,12 @@ fn complaint(name: &str, policy: &str, request: Option<&str>) -> String {
     }
 }
 
+/// How many files of statements there are so far: the tests run side by side, and each needs files of its own.
+static STATEMENTS: AtomicUsize = AtomicUsize::new(0);
+
 fn statements(cases: &[(&str, &str)]) {
-    for (i, (statement, wanted)) in cases.iter().enumerate() {
-        let name = format!("faults_{i}_{}.secpal", wanted.len());
+    for (statement, wanted) in cases {
+        let name = format!("faults_{}.secpal", STATEMENTS.fetch_add(1, Ordering::Relaxed));
         assert_eq!(complaint(&name, &format!("{NAMES}{statement}\n"), None), *wanted, "{statement}");
     }
 }
