@@ -1,5 +1,5 @@
 -- The three demands, and what requests 02, 05 and 06 add, as statements about calls of the engine. `proofs/Demands.antt` has a proof of each, under the same
--- name with a small first letter.
+-- name in snake case.
 use Rattle.std.specs.Prelude.{◌≡◌, ◌↔◌, ◌⊎◌, ℕ, zero, suc, ◌*◌, ◌≤◌, ◌<◌, length, take, drop, T}
 use mathlib.Core.List.{List, [], ◌∷◌, Memᴰ}
 use Rattle.model.specs.Limits.{record_bytes, answer_bytes}

@@ -1,4 +1,4 @@
--- The proofs of `specs/Theorems.antt`, each under its statement's name with a small first letter.
+-- The proofs of `specs/Theorems.antt`, each under its statement's name in snake case.
 use mathlib.Core.Path.{◌≡◌, refl, sym, ap, subst, subst₂, ◌∙◌}
 use mathlib.Core.Logic.{◌↔◌}
 use mathlib.Core.List.Memᴰ

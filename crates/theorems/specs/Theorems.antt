@@ -1,4 +1,4 @@
--- What is proved of the definitions: each statement as a type. `proofs/Theorems.antt` has a proof of each, under the same name with a small first letter.
+-- What is proved of the definitions: each statement as a type. `proofs/Theorems.antt` has a proof of each, under the same name in snake case.
 use Rattle.std.specs.Prelude.{◌≡◌, ◌↔◌, ℕ, ◌≤◌, ◌<◌, length, get_or, T}
 use mathlib.Core.List.{List, [], map, Memᴰ}
 use Rattle.model.specs.Limits.{unbound}
