@@ -1,7 +1,6 @@
 pub mod Cutting
 pub mod Searching
 pub mod Judging
-pub mod Fills
 pub mod Writing
 pub mod Meant
 pub mod NoAnswer

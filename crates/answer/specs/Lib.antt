@@ -1,4 +1,5 @@
 pub mod Partial
+pub mod Lent
 pub mod Judged
 pub mod Written
 pub mod Alone

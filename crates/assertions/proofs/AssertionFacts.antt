@@ -1,23 +1,23 @@
 -- What the code finds of an assertion by the two tables is what the model says of it.
-use mathlib.Core.Path.{◌≡◌, refl, sym, ◌∙◌, ap, subst}
-use mathlib.Core.Bool.{Bool, true, false, ◌&&◌}
+use mathlib.Core.Path.{◌≡◌, refl, sym, ◌∙◌, ap, ap₂, subst}
+use mathlib.Core.Bool.{Bool, true, false, ◌&&◌, ◌||◌, cond}
 use mathlib.Core.Logic.{⊎_elim}
 use mathlib.Core.List.Memᴰ
 use mathlib.Core.List.{List, [], ◌∷◌, ◌++◌, map, map-append, append_assoc, Memᴰ}
 use Prim.Native.Nat.{ℕ, zero, suc, ◌+◌, ◌≤◌, ◌<◌}
 use native.Mathlib.Omega.{arith}
-use lib.Dec.{T, eqb, eqb-suc-zero}
+use lib.Dec.{T, eqb, ltb, leb, eqb-suc-zero}
 use lib.ListN.{length}
 use borrow.Author.Tests.{ltb-false}
 use Rattle.model.proofs.ListFacts.{each_of, each_in, and_of}
 use Rattle.model.proofs.ReadFacts.{levels_arity}
-use Rattle.wire.proofs.Reading.{choose_true, choose_false}
+use Rattle.std.proofs.Common.{Ok, Err, is_some}
 use Rattle.model.specs.Limits.{principal}
 use Rattle.model.specs.Lists.{all, each, among}
 use Rattle.model.specs.Syntax.{Expr, Fact, flat, can_say, Assertion, Constant, Verb, vars_of, vars_in, vars_test}
 use Rattle.model.specs.Kinds.{kind_at, param_kinds, pair, places, demands_of, occurring, fitting, fits_assertion}
 use Rattle.model.specs.Safety.{is_flat, safe_head, safe_assertion}
-use Rattle.model.specs.Bytes.{byte_at, u16_at, choose, both, got, refused}
+use Rattle.model.specs.Bytes.{byte_at, u16_at, choose, got, refused}
 use Rattle.model.specs.Readings.{expr_at, levels_at, fact_at, fact_end, facts_end, body_at, tests_at, assertion_read_at}
 use Rattle.model.specs.Readings.{assertion_end}
 use Rattle.model.specs.Forms as forms
@@ -27,45 +27,31 @@ use Rattle.model.specs.Records.{Arity}
 use Rattle.kinds.specs.Cells.{Ask, feed, nothing}
 use Rattle.kinds.specs.Asks.{ask_place, ask_test, asks_for, Regular}
 use Rattle.kinds.proofs.Model.{fits, fits_low}
-use Rattle.phrases.specs.declared.Form.{Form}
-use Rattle.phrases.specs.declared.Form.TheVariants.{Ends, Broken}
+use Rattle.phrases.specs.declared.Fault.TheVariants.{Broken}
 use Rattle.phrases.specs.Tables.{Tables}
-use Rattle.phrases.specs.Phrases.{fact_next, facts_by, code_form, then_by}
+use Rattle.phrases.specs.Phrases.{fact_next, facts_by, code_form}
 use Rattle.phrases.specs.Marks.{none, marked, within}
 use Rattle.phrases.proofs.Model as phrase
 use Rattle.phrases.proofs.Ends.{form_ends, forms_end, operators_regular}
 use Rattle.phrases.proofs.Sets.{marked_append, within_is}
-use Rattle.slices.specs.declared.Step.TheVariants.{Next, Refused}
-use Rattle.slices.specs.Steps.{step}
+use Rattle.slices.specs.Steps.{Next, Refused, step}
 use Rattle.assertions.specs.Assertions.{tests_form_by, body_form_by, statement_form_by, assertion_form_by, tests_by, body_asks, statement_asks, fits_by}
 use Rattle.assertions.specs.Assertions.{body_marks}
-use Rattle.assertions.specs.Assertions.{head_safe_by, tests_safe_by, safe_by, judged_by, item_by}
+use Rattle.assertions.specs.Assertions.{head_safe_by, tests_safe_by, safe_by, judged_by, item_by, item_at}
 use Rattle.model.proofs.ReaderEnds.{no_broken, then_ends}
 use Rattle.model.proofs.Tests.{true_T}
 
 -- ---- form
 
 code_tests : (a b c d : Bool) (e : ℕ)
-    → choose a Broken (choose b Broken (choose c (choose d (Ends e) Broken) Broken))
+    → cond (a || b) (Err Broken) (cond (c && d) (Ok e) (Err Broken))
     ≡ code_form (choose a broken (choose b broken (choose c (choose d (ends e) broken) broken)))
-unfolding choose code_form
+unfolding choose
 code_tests true b c d e = refl
 code_tests false true c d e = refl
 code_tests false false false d e = refl
 code_tests false false true false e = refl
 code_tests false false true true e = refl
-
-code_broken : (b : Bool) (φ : Form) (ψ : forms.Form) → φ ≡ code_form ψ → choose b Broken φ ≡ code_form (choose b broken ψ)
-unfolding choose code_form
-code_broken true φ ψ e = refl
-code_broken false φ ψ e = e
-
-code_then : (φ : forms.Form) (ψ : Form) (f : ℕ → Form) (g : ℕ → forms.Form) → ψ ≡ code_form φ → ((p : ℕ) → f p ≡ code_form (g p))
-    → then_by ψ f ≡ code_form (then_form φ g)
-unfolding then_by then_form code_form
-code_then (ends p) ψ f g e h = rw e (h p)
-code_then broken ψ f g e h = rw e
-code_then no_verb ψ f g e h = rw e
 
 module _ {cs : List Constant} {vs : List Verb} {ks sg : List ℕ} (X : Tables cs vs ks sg) (s : List ℕ) where
   tests_form_law : (e p : ℕ) → tests_form_by s e p ≡ code_form (tests_form vs s e p)
@@ -74,13 +60,22 @@ module _ {cs : List Constant} {vs : List Verb} {ks sg : List ℕ} (X : Tables cs
 
   body_form_law : (e p : ℕ) → body_form_by sg s e p ≡ code_form (body_form vs s e p)
   unfolding body_form_by body_form
-  body_form_law e p = code_broken _ _ _ (code_broken _ _ _ (code_then _ _ _ _ (phrase.forms_are X s e (byte_at s p) (p + 1)) (tests_form_law e)))
+  body_form_law e p =
+      ap (cond (leb e p || ltb 4 (byte_at s p)) (Err Broken))
+      (phrase.then_code _ _ _ _ (phrase.forms_are X s e (byte_at s p) (p + 1)) (tests_form_law e))
+      ∙ phrase.code_either _ _ _
+
+  statement_form_law : (e p : ℕ) → statement_form_by sg s e p ≡ code_form (statement_form vs s e p)
+  unfolding statement_form_by statement_form
+  statement_form_law e p =
+      ap (cond (ltb e (p + 6)) (Err Broken)) (phrase.then_code _ _ _ _ (phrase.form_is X s e (p + 6)) (body_form_law e))
+      ∙ sym (phrase.code_choose (ltb e (p + 6)) broken _)
 
   pub assertion_form_law : (at : ℕ) → assertion_form_by sg s at ≡ code_form (assertion_form vs s at)
-  unfolding assertion_form_by assertion_form statement_form_by statement_form
+  unfolding assertion_form_by assertion_form
   assertion_form_law at =
-      let end = assertion_end s at in
-      code_broken _ _ _ (code_broken _ _ _ (code_broken _ _ _ (code_then _ _ _ _ (phrase.form_is X s end (at + 2 + 6)) (body_form_law end))))
+      ap (cond (ltb (length s) (at + 2) || ltb (length s) (assertion_end s at)) (Err Broken)) (statement_form_law (assertion_end s at) (at + 2))
+      ∙ phrase.code_either _ _ _
 
 -- ---- what an assertion of right form is sure to have
 
@@ -123,11 +118,6 @@ module _ (vs : List Verb) (s : List ℕ) where
 
 -- ---- kinds
 
-both_and : (a b : Bool) {c d : Bool} → a ≡ c → b ≡ d → both a b ≡ (c && d)
-unfolding both choose
-both_and true b e f = rw (← e, f)
-both_and false b e f = rw (← e)
-
 module _ {cs : List Constant} {vs : List Verb} {ks sg : List ℕ} (X : Tables cs vs ks sg) (s : List ℕ) (at : ℕ) where
   abbrev stated : Assertion
   stated = assertion_read_at vs s at
@@ -157,8 +147,8 @@ module _ {cs : List Constant} {vs : List Verb} {ks sg : List ℕ} (X : Tables cs
 
   pub fits_is : {e : ℕ} → Shaped vs s at e → fits_by ks sg s at ≡ fits_assertion cs vs stated
   unfolding fits_by assertion_read_at
-  fits_is S = both_and _ _ (ap (λ (k : ℕ). eqb k principal) (X.kinds (u16_at s (at + 6))))
-      (ap (λ (qs : List Ask). (feed qs nothing).ok) asks_are ∙ fits cs (demands_of vs stated) (regular S))
+  fits_is S = ap₂ ◌&&◌ (ap (λ (k : ℕ). eqb k principal) (X.kinds (u16_at s (at + 6))))
+      (ap (λ (qs : List Ask). is_some (feed qs nothing)) asks_are ∙ fits cs (demands_of vs stated) (regular S))
 
 -- ---- safety: a variable of a fact stands in one of its places
 
@@ -187,19 +177,12 @@ placed vs (can_say e d f) v a m =
 
 -- "In a flat head every variable .. In a nested head the outermost speaker .."
 head_levels : (vs : List Verb) (s : List ℕ) (m p : ℕ) (ins : List ℕ) → ((v : ℕ) → Memᴰ v (vars_in (levels_at vs m s p)) → v < 8)
-    → choose (eqb m 0) (within 8 (marked (vars_in (levels_at vs m s p)) none) (marked ins none))
+    → cond (eqb m 0) (within 8 (marked (vars_in (levels_at vs m s p)) none) (marked ins none))
     (within 8 (marked (vars_of (expr_at s p)) none) (marked ins none))
     ≡ safe_head (levels_at vs m s p) ins
 unfolding levels_at
-head_levels vs s zero p ins low = choose_true _ _ refl ∙ within_is (vars_in (levels_at vs 0 s p)) ins low
-head_levels vs s (suc m) p ins low = choose_false _ _ (eqb-suc-zero m) ∙ within_is (vars_of (expr_at s p)) ins (λ v n. low v (Memᴰ.append_left _ n))
-
-both_three : (a b c : Bool) {x y z : Bool} → a ≡ x → b ≡ y → c ≡ z → both a (both b c) ≡ (x && y && z)
-both_three a b c {x} {y} {z} d e f = both_and a (both b c) d (both_and b c e f) ∙ regroup x y z
-  where
-    regroup : (x y z : Bool) → (x && (y && z)) ≡ (x && y && z)
-    regroup true y z = refl
-    regroup false y z = refl
+head_levels vs s zero p ins low = within_is (vars_in (levels_at vs 0 s p)) ins low
+head_levels vs s (suc m) p ins low = rw (eqb-suc-zero m) (within_is (vars_of (expr_at s p)) ins (λ v n. low v (Memᴰ.append_left _ n)))
 
 module _ {cs : List Constant} {vs : List Verb} {ks sg : List ℕ} (X : Tables cs vs ks sg) (s : List ℕ) (at : ℕ) {e : ℕ} (S : Shaped vs s at e)
     (fit : T (fitting cs (demands_of vs (assertion_read_at vs s at)))) where
@@ -247,13 +230,13 @@ module _ {cs : List Constant} {vs : List Verb} {ks sg : List ℕ} (X : Tables cs
 
   pub safe_is : safe_by sg s (at + 8) (fact_next sg s (at + 8)) ≡ safe_assertion said
   unfolding safe_by
-  safe_is = both_three _ _ _ flat_is head_is tests_are
+  safe_is = ap₂ ◌&&◌ (ap₂ ◌&&◌ flat_is head_is) tests_are
 
 -- ---- the item
 
 -- fit, then safe: the tests agree, the second where the first passes
 judge : {A : Type 0} (a : A) (f g h k : Bool) (at e : ℕ) → f ≡ g → (g ≡ true → h ≡ k)
-    → choose f (choose h (Next e) (Refused 6 at)) (Refused 5 at) ≡ step (choose g (choose k (got a e) (refused 6 at)) (refused 5 at))
+    → cond f (cond h (Next e) (Refused 6 at)) (Refused 5 at) ≡ step (choose g (choose k (got a e) (refused 6 at)) (refused 5 at))
 unfolding choose step
 judge a f true h true at e d q = rw (d, q refl)
 judge a f true h false at e d q = rw (d, q refl)
@@ -266,8 +249,8 @@ module _ {cs : List Constant} {vs : List Verb} {ks sg : List ℕ} (X : Tables cs
       judge (assertion_read_at vs s at) _ _ _ _ at e (fits_is X s at S)
       (λ h. safe_is X s at S (and_of (eqb (kind_at cs (assertion_read_at vs s at).issuer) principal) _ (true_T _ h)).1)
 
-  pub item_is : (at : ℕ) (before : List Assertion) → item_by ks sg s (assertion_form_by sg s at) at ≡ step (assertion_item cs vs s before at)
-  unfolding assertion_item assertion_by item_by code_form step
+  pub item_is : (at : ℕ) (before : List Assertion) → item_at ks sg s at ≡ step (assertion_item cs vs s before at)
+  unfolding assertion_item assertion_by item_at step
   item_is at before = rw (assertion_form_law X s at) (go (assertion_form vs s at) refl)
     where
       go : (φ : forms.Form) → assertion_form vs s at ≡ φ → item_by ks sg s (code_form φ) at ≡ step (assertion_by φ cs vs (assertion_read_at vs s at) at)

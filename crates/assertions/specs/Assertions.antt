@@ -1,20 +1,19 @@
 -- Assertions as the code reads them, by the two tables: their form, what they ask of the kinds, and whether they are safe.
-use Rattle.std.specs.Prelude.{ℕ, zero, suc, ◌+◌, ◌*◌, List, ◌++◌, Bool, length, ltb, leb, eqb}
+use Rattle.std.specs.Prelude.{ℕ, ◌+◌, ◌*◌, List, ◌++◌, Bool, ◌&&◌, ◌||◌, ◌==◌, nat_lt, nat_le, if◌then◌else◌, length, Result, Ok, Err, is_some}
 use Rattle.model.specs.Limits.{max_assertions, max_body, max_constraints, principal}
 use Rattle.model.specs.Lists.{all, each}
 use Rattle.model.specs.Syntax.{Verb, Assertion, vars_of, vars_in, vars_test}
 use Rattle.model.specs.Safety.{is_flat}
-use Rattle.model.specs.Bytes.{byte_at, u16_at, choose, both}
+use Rattle.model.specs.Bytes.{byte_at, u16_at}
 use Rattle.model.specs.Readings.{expr_at, fact_at, fact_end, facts_at, facts_end, constraints_at, assertion_end}
 use Rattle.model.specs.Forms.{operators_form}
 use Rattle.kinds.specs.Cells.{Ask, feed, nothing}
-use Rattle.phrases.specs.declared.Form.{Form}
-use Rattle.phrases.specs.declared.Form.TheVariants.{Ends, Broken, NoVerb}
+use Rattle.phrases.specs.declared.Fault.{Fault}
+use Rattle.phrases.specs.declared.Fault.TheVariants.{Broken, NoVerb}
 use Rattle.phrases.specs.Phrases.{fact_next, facts_next, fact_by, facts_by, then_by, fact_form_by, facts_form_by, fact_asks, facts_asks, tests_asks}
 use Rattle.phrases.specs.Marks.{none, marked, within}
-use Rattle.slices.specs.declared.Step.{Step}
-use Rattle.slices.specs.declared.Step.TheVariants.{Next, Refused}
-use Rattle.slices.specs.Steps.{then_step, count_right, ended_at}
+use Rattle.slices.specs.Steps.{Step, Next, Refused}
+use Rattle.slices.specs.Lists.{list_by}
 
 -- "2-byte length .., 4-byte serial .., issuer, head fact": where the issuer of the assertion at an offset stands
 unfoldable pub issuer_read_at : ℕ → ℕ
@@ -40,29 +39,27 @@ module _ (vs : List Verb) (s : List ℕ) where
 -- ---- form, in an item that ends at e
 
 -- constraints, whose count stands at p; they end the item
-unfoldable pub tests_form_by : List ℕ → ℕ → ℕ → Form
+unfoldable pub tests_form_by : List ℕ → ℕ → ℕ → Result ℕ Fault
 tests_form_by s e p =
-    choose (leb e p) Broken
-    (choose (ltb max_constraints (byte_at s p)) Broken
-    (choose (eqb (p + 1 + 5 * byte_at s p) e) (choose (operators_form (byte_at s p) s (p + 1)) (Ends e) Broken) Broken))
+    if nat_le e p || nat_lt max_constraints (byte_at s p) then Err Broken
+    else if (p + 1 + 5 * byte_at s p == e) && operators_form (byte_at s p) s (p + 1) then Ok e
+    else Err Broken
 
 module _ (sg s : List ℕ) (e : ℕ) where
   -- body facts, whose count stands at p, and constraints
-  unfoldable pub body_form_by : ℕ → Form
+  unfoldable pub body_form_by : ℕ → Result ℕ Fault
   body_form_by p =
-      choose (leb e p) Broken
-      (choose (ltb max_body (byte_at s p)) Broken
-      (then_by (facts_form_by sg s e (byte_at s p) (p + 1)) (tests_form_by s e)))
+      if nat_le e p || nat_lt max_body (byte_at s p) then Err Broken
+      else then_by (facts_form_by sg s e (byte_at s p) (p + 1)) (tests_form_by s e)
 
   -- serial and issuer from p on, head, body and constraints
-  unfoldable pub statement_form_by : ℕ → Form
-  statement_form_by p = choose (ltb e (p + 6)) Broken (then_by (fact_form_by sg s e (p + 6)) body_form_by)
+  unfoldable pub statement_form_by : ℕ → Result ℕ Fault
+  statement_form_by p = if nat_lt e (p + 6) then Err Broken else then_by (fact_form_by sg s e (p + 6)) body_form_by
 
-unfoldable pub assertion_form_by : List ℕ → List ℕ → ℕ → Form
+unfoldable pub assertion_form_by : List ℕ → List ℕ → ℕ → Result ℕ Fault
 assertion_form_by sg s at =
-    choose (ltb (length s) (at + 2)) Broken
-    (choose (ltb (length s) (assertion_end s at)) Broken
-    (statement_form_by sg s (assertion_end s at) (at + 2)))
+    if nat_lt (length s) (at + 2) || nat_lt (length s) (assertion_end s at) then Err Broken
+    else statement_form_by sg s (assertion_end s at) (at + 2)
 
 -- ---- where the count of constraints stands, that of body facts standing at b
 
@@ -82,7 +79,7 @@ module _ (ks sg s : List ℕ) where
 
   -- the issuer is a principal constant, and some choice of kinds fits
   unfoldable pub fits_by : ℕ → Bool
-  fits_by at = both (eqb (byte_at ks (u16_at s (at + 6))) principal) (feed (statement_asks (at + 8)) nothing).ok
+  fits_by at = (byte_at ks (u16_at s (at + 6)) == principal) && is_some (feed (statement_asks (at + 8)) nothing)
 
 -- ---- safety: head at h, body count at b
 
@@ -93,9 +90,8 @@ module _ (sg s : List ℕ) where
 
   unfoldable pub head_safe_by : ℕ → ℕ → Bool
   head_safe_by h b =
-      choose (eqb (byte_at s h) 0)
-      (within 8 (marked (vars_in (fact_by sg s h)) none) (body_marks b none))
-      (within 8 (marked (vars_of (expr_at s (h + 1))) none) (body_marks b none))
+      if byte_at s h == 0 then within 8 (marked (vars_in (fact_by sg s h)) none) (body_marks b none)
+      else within 8 (marked (vars_of (expr_at s (h + 1))) none) (body_marks b none)
 
   -- the constraints' variables, their count at c
   unfoldable pub tests_safe_by : ℕ → ℕ → ℕ → Bool
@@ -103,27 +99,26 @@ module _ (sg s : List ℕ) where
       within 8 (marked (each (constraints_at (byte_at s c) s (c + 1)) vars_test) none) (body_marks b (marked (vars_in (fact_by sg s h)) none))
 
   unfoldable pub safe_by : ℕ → ℕ → Bool
-  safe_by h b =
-      both (all is_flat (facts_by sg (byte_at s b) s (b + 1)))
-      (both (head_safe_by h b) (tests_safe_by h b (tests_by sg s b)))
+  safe_by h b = all is_flat (facts_by sg (byte_at s b) s (b + 1)) && head_safe_by h b && tests_safe_by h b (tests_by sg s b)
 
 -- ---- one after the other
 
 module _ (ks sg s : List ℕ) where
   -- an assertion of right form that ends at e
   unfoldable pub judged_by : ℕ → ℕ → Step
-  judged_by at e = choose (fits_by ks sg s at) (choose (safe_by sg s (at + 8) (fact_next sg s (at + 8))) (Next e) (Refused 6 at)) (Refused 5 at)
+  judged_by at e =
+      if fits_by ks sg s at then (if safe_by sg s (at + 8) (fact_next sg s (at + 8)) then Next e else Refused 6 at)
+      else Refused 5 at
 
-  unfoldable pub item_by : Form → ℕ → Step
-  item_by (Ends e) at = judged_by at e
-  item_by Broken at = Refused 3 at
-  item_by NoVerb at = Refused 5 at
+  abbrev pub item_by : Result ℕ Fault → ℕ → Step
+  item_by (Ok e) at = judged_by at e
+  item_by (Err Broken) at = Refused 3 at
+  item_by (Err NoVerb) at = Refused 5 at
 
-  -- n assertions from `at` on
-  unfoldable pub items_by : ℕ → ℕ → Step
-  items_by zero at = Next at
-  items_by (suc n) at = then_step (item_by (assertion_form_by sg s at) at) (items_by n)
+  -- the assertion at an offset
+  unfoldable pub item_at : ℕ → Step
+  item_at at = item_by (assertion_form_by sg s at) at
 
   -- their count at p; nothing is left over after them
   unfoldable pub assertions_by : ℕ → Step
-  assertions_by p = choose (count_right s 0 max_assertions p) (then_step (items_by (u16_at s p) (p + 2)) (ended_at s)) (Refused 3 p)
+  assertions_by p = list_by item_at s 0 max_assertions p

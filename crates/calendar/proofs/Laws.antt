@@ -13,17 +13,6 @@ use Rattle.model.proofs.CalendarFacts.{months, twelve, forth}
 use Rattle.model.proofs.DaysOfYear.{both, more, base, late, before, year_days_law}
 use Rattle.model.proofs.Years.{dates_are_days, same_date}
 
--- ---- leap years, test by test
-
-pub not_fourth : (y : ℕ) → (y % 4 ≡ 0 → ⊥) → false ≡ leap_year y
-not_fourth y h = rw (ne_eqb (y % 4) 0 h)
-
-pub no_century : (y : ℕ) → y % 4 ≡ 0 → (y % 100 ≡ 0 → ⊥) → true ≡ leap_year y
-no_century y h k = rw (eq-eqb (y % 4) 0 h, ne_eqb (y % 100) 0 k)
-
-pub of_century : (y : ℕ) → y % 4 ≡ 0 → y % 100 ≡ 0 → eqb (y % 400) 0 ≡ leap_year y
-of_century y h k = rw (eq-eqb (y % 4) 0 h, eq-eqb (y % 100) 0 k)
-
 -- ---- the first hundred years: each fourth has 366 days
 
 -- computed for all of them
@@ -157,16 +146,6 @@ found n y m o h e a z l k =
     let on = month_on y m a in
     let number : day_of d ≡ n = omega (arith, e, l) in
     sym (forth d (record { since = h; month = a; months = z; day = omega arith; days = omega (arith, on, l, k) })) ∙ ap date_of number
-
--- 29 February or not, test by test
-pub other_month : (y m d : ℕ) → (m ≡ 2 → ⊥) → d ≡ (one_year_after (date y m d)).day
-other_month y m d h = rw (ne_eqb m 2 h)
-
-pub other_day : (y m d : ℕ) → m ≡ 2 → (d ≡ 29 → ⊥) → d ≡ (one_year_after (date y m d)).day
-other_day y m d e h = rw (eq-eqb m 2 e, ne_eqb d 29 h)
-
-pub leap_day : (y m d : ℕ) → m ≡ 2 → d ≡ 29 → 28 ≡ (one_year_after (date y m d)).day
-leap_day y m d e h = rw (eq-eqb m 2 e, eq-eqb d 29 h)
 
 -- the year in which a day is found
 pub here : (n : ℕ) → n ≤ 36524 → InYear n (2000 + 4 * n / 1461 - 2000) × (2000 + 4 * n / 1461 - 2000 ≡ 4 * n / 1461)

@@ -23,16 +23,11 @@ const BEFORE: [u16; 12] = [0, 31, 59, 90, 120, 151, 181, 212, 243, 273, 304, 334
 fn leap_year(year: u32) -> bool
     ensures { result ≡ leap_year year }
 {
-    if year % 4 != 0 {
-        return false;
-    }
-    if year % 100 != 0 {
-        return true;
-    }
-    year % 400 == 0
+    year % 4 == 0 && (year % 100 != 0 || year % 400 == 0)
 }
 
 // Days from 1 January 2000 to 1 January of a year: every fourth year has one more.
+#[tactic(auto, using(crate::proofs::Laws::years_closed))]
 fn before_year(year: u32) -> u32
     requires { (2000 ≤ year) × (year ≤ 2100) }
     ensures { (result ≡ days_of_years (year - 2000)) × (result ≤ 36525) }
@@ -47,28 +42,25 @@ fn before_month(year: u32, month: u32) -> u32
     ensures { (result ≡ days_of_months year (month - 1)) × (result ≤ 335) }
 {
     let days = BEFORE[(month - 1) as usize] as u32;
-    if month <= 2 {
-        return days;
+    if month > 2 && leap_year(year) {
+        days + 1
+    } else {
+        days
     }
-    if leap_year(year) {
-        return days + 1;
-    }
-    days
 }
 
 // The month in which `over` days of the year are over.
+#[tactic(auto, using(crate::proofs::Laws::no_month, crate::proofs::Laws::all_months))]
 fn month_of(year: u32, over: u32) -> u32
     requires { over < year_days year }
     ensures { (1 ≤ result) × (result ≤ 12) × (days_of_months year (result - 1) ≤ over) × (over < days_of_months year result) }
 {
-    let mut month: u32 = 12;
-    while 1 < month {
-        if before_month(year, month) <= over {
+    for month in 1..12 {
+        if over < before_month(year, month + 1) {
             return month;
         }
-        month -= 1;
     }
-    month
+    12
 }
 
 // The date of a day.
@@ -87,6 +79,7 @@ pub fn date_of(day: u32) -> Date
 }
 
 // The day of a date.
+#[tactic(auto, using(crate::proofs::Laws::days_most))]
 pub fn day_of(date: Date) -> u32
     requires { IsDate (date_in date) × (date.year ≤ 2100) }
     ensures { result ≡ day_of (date_in date) }
@@ -98,13 +91,11 @@ pub fn day_of(date: Date) -> u32
 fn day_kept(date: Date) -> u32
     ensures { result ≡ (one_year_after (date_in date)).day }
 {
-    if date.month != 2 {
-        return date.day;
+    if date.month == 2 && date.day == 29 {
+        28
+    } else {
+        date.day
     }
-    if date.day != 29 {
-        return date.day;
-    }
-    28
 }
 
 // The day of "right's calendar date one year after".

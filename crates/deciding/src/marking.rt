@@ -65,10 +65,17 @@ pub fn accepted(
 {
     let kinds = x.kinds;
     let signatures = x.signatures;
-    let h = inputs::read(&kinds, &signatures, request, withdrawals, hierarchy);
-    if h.refusal == 0 {
-        mark_reach(policy, x, request, h, withdrawals, marks);
-        return numbers::refused(0, 0, 0, 0, 0);
+    match inputs::read(&kinds, &signatures, request, withdrawals, hierarchy) {
+        Ok(h) => {
+            mark_reach(policy, x, request, h, withdrawals, marks);
+            numbers::refused(0, 0, 0, 0, 0)
+        }
+        Err(r) => numbers::refused(
+            r.refusal.reason.number(),
+            r.side.number(),
+            r.refusal.place,
+            0,
+            0,
+        ),
     }
-    numbers::refused(h.refusal, h.side, h.place, 0, 0)
 }

@@ -1,10 +1,10 @@
 pub mod Holding
-pub mod Finding
+pub mod Children
 pub mod Scanning
 pub mod Growing
-pub mod Laying
+pub mod Entries
 pub mod Marking
 pub mod Owning
 pub mod Keeping
 pub mod Uniting
-pub mod Covering
+pub mod Covered

@@ -1,4 +1,3 @@
-pub mod Steps
 pub mod Meaning
 pub mod Links
 pub mod Accepted

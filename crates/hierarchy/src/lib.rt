@@ -1,19 +1,21 @@
 // The reader of the hierarchy (request 05). An entry has 6 bytes and no length: verb, position, parent and child.
 #![tactic(auto)]
 
-ghost use Rattle.std.specs.Prelude.{◌≡◌, List, ℕ, ◌+◌, ◌*◌, ◌≤◌, length};
+ghost use Rattle.std.specs.Prelude.{◌≡◌, List, ℕ, ◌+◌, ◌*◌, ◌≤◌, length, IfOk};
 ghost use Rattle.model.specs.Limits.{max_links};
 ghost use Rattle.model.specs.Syntax.{Constant, Verb};
 ghost use Rattle.model.specs.Entries.{read_hierarchy};
 ghost use Rattle.wire.specs.Budget.{farthest, longest};
 ghost use Rattle.phrases.specs.Tables.{Tables};
-ghost use Rattle.slices.specs.Steps.{then_step, ended_at};
-ghost use Rattle.hierarchy.specs.Links.{entry_at};
-ghost use Rattle.hierarchy.specs.Links as links;
-ghost use Rattle.hierarchy.specs.Reading.{refusal, handed_out, told, arity_is, kinds_are, fits_by, judged_by, entry_by, entries_by, list_by};
+ghost use Rattle.slices.specs.Steps.{step_of};
+ghost use Rattle.slices.specs.Lists.{count_of};
+ghost use Rattle.hierarchy.specs.Links.{entry_at, told};
+ghost use Rattle.hierarchy.specs.Reading.{arity_is, kinds_are, fits_by, entry_by};
 
 use limits::HEADER;
-use slices::Step;
+use phrases::ROW;
+use slices::lists::{self, Reader};
+use slices::{Reason, Refusal};
 
 // Where parts of an entry stand, from its verb on, and how many bytes it has.
 const POSITION: usize = 1;
@@ -24,185 +26,81 @@ const CHILD: usize = 4;
 
 const ENTRY: usize = 6;
 
-// A verb's row in the table of signatures: its arity and one, then the kinds of its parameters.
-const ROW: usize = 4;
-
 // The entries stand behind their 2-byte count.
 const FIRST: usize = HEADER + 2;
 
-// What the reader hands out: how many entries there are, or why the slice is refused.
+// What entries are read by: the kinds of the policy's constants, and the signatures of its verbs.
 #[derive(Clone, Copy)]
-pub struct Hierarchy {
-    // 0: accepted
-    pub refusal: u8,
-    pub place: usize,
-    pub entries: usize,
+struct Entries<'a> {
+    kinds: &'a [u8],
+    signatures: &'a [u8],
 }
 
-// ---- kinds
+impl Entries<'_> {
+    // "an entry for verb 0, for a position 0 or past the verb's arity": none of these.
+    fn arity_is(&self, hierarchy: &[u8], at: usize) -> bool
+        requires { at ≤ longest }
+        ensures { result ≡ arity_is self.now.signatures.now hierarchy.now at }
+    {
+        let verb = wire::byte_or(hierarchy, at);
+        let position = wire::byte_or(hierarchy, at + POSITION);
+        verb != 0 && position != 0 && position < wire::byte_or(self.signatures, ROW * verb)
+    }
 
-// "an entry for verb 0, for a position 0 or past the verb's arity": none of these.
-fn arity_is(signatures: &[u8], hierarchy: &[u8], at: usize) -> bool
-    requires { at ≤ longest }
-    ensures { result ≡ arity_is signatures.now hierarchy.now at }
-{
-    let verb = wire::byte_or(hierarchy, at);
-    if verb == 0 {
-        return false;
+    // Parent and child are constants of the parameter's kind.
+    fn kinds_are(&self, hierarchy: &[u8], at: usize) -> bool
+        requires { at ≤ longest }
+        ensures { result ≡ kinds_are self.now.kinds.now self.now.signatures.now hierarchy.now at }
+    {
+        let parameter = ROW * wire::byte_or(hierarchy, at)
+            + wire::byte_or(hierarchy, at + POSITION);
+        let kind = wire::byte_or(self.signatures, parameter);
+        wire::byte_or(self.kinds, wire::u16_or(hierarchy, at + PARENT)) == kind
+            && wire::byte_or(self.kinds, wire::u16_or(hierarchy, at + CHILD)) == kind
     }
-    let position = wire::byte_or(hierarchy, at + POSITION);
-    if position == 0 {
-        return false;
+
+    fn fits(&self, hierarchy: &[u8], at: usize) -> bool
+        requires { at ≤ longest }
+        ensures { result ≡ fits_by self.now.kinds.now self.now.signatures.now hierarchy.now at }
+    {
+        self.arity_is(hierarchy, at) && self.kinds_are(hierarchy, at)
     }
-    position < wire::byte_or(signatures, ROW * verb)
 }
 
-// Parent and child are constants of the parameter's kind.
-fn kinds_are(kinds: &[u8], signatures: &[u8], hierarchy: &[u8], at: usize) -> bool
-    requires { at ≤ longest }
-    ensures { result ≡ kinds_are kinds.now signatures.now hierarchy.now at }
-{
-    let kind = wire::byte_or(
-        signatures,
-        ROW * wire::byte_or(hierarchy, at) + wire::byte_or(hierarchy, at + POSITION),
-    );
-    if wire::byte_or(kinds, wire::u16_or(hierarchy, at + PARENT)) == kind {
-        return wire::byte_or(kinds, wire::u16_or(hierarchy, at + CHILD)) == kind;
-    }
-    false
-}
+impl Reader for Entries<'_> {
+    ghost step_at = { λ it s. entry_by it.kinds.now it.signatures.now s };
 
-fn fits(kinds: &[u8], signatures: &[u8], hierarchy: &[u8], at: usize) -> bool
-    requires { at ≤ longest }
-    ensures { result ≡ fits_by kinds.now signatures.now hierarchy.now at }
-{
-    if arity_is(signatures, hierarchy, at) {
-        return kinds_are(kinds, signatures, hierarchy, at);
-    }
-    false
-}
-
-// ---- the entries
-
-// An entry that is there: "11, parent equal to child, after 5 in its entry".
-fn judged(kinds: &[u8], signatures: &[u8], hierarchy: &[u8], at: usize) -> Step
-    requires { at ≤ longest }
-    ensures { result ≡ judged_by kinds.now signatures.now hierarchy.now at }
-{
-    if fits(kinds, signatures, hierarchy, at) {
+    // "A verb number past the verbs ends the reading of its item: it gives 5"; "11, parent equal to child, after 5 in its entry".
+    #[tactic(auto, unfolding(crate::specs::Reading::entry_by))]
+    fn item(&self, hierarchy: &[u8], at: usize) -> Result<usize, Refusal> {
+        if hierarchy.len() < at + 1 {
+            return Err(Reason::Form.at(at));
+        }
+        if wire::byte_or(self.signatures, ROW * wire::byte_or(hierarchy, at)) == 0 {
+            return Err(Reason::Unfit.at(at));
+        }
+        if hierarchy.len() < at + ENTRY {
+            return Err(Reason::Form.at(at));
+        }
+        if !self.fits(hierarchy, at) {
+            return Err(Reason::Unfit.at(at));
+        }
         if wire::u16_or(hierarchy, at + PARENT) == wire::u16_or(hierarchy, at + CHILD) {
-            return Step::Refused(11, at);
+            return Err(Reason::OwnPart.at(at));
         }
-        return Step::Next(at + ENTRY);
-    }
-    Step::Refused(5, at)
-}
-
-// The entry at `at`. "A verb number past the verbs ends the reading of its item: it gives 5".
-fn entry(kinds: &[u8], signatures: &[u8], hierarchy: &[u8], at: usize) -> Step
-    requires { (at ≤ length hierarchy.now) × (length hierarchy.now ≤ longest) }
-    ensures { result ≡ entry_by kinds.now signatures.now hierarchy.now at }
-{
-    if hierarchy.len() < at + 1 {
-        return Step::Refused(3, at);
-    }
-    if wire::byte_or(signatures, ROW * wire::byte_or(hierarchy, at)) == 0 {
-        return Step::Refused(5, at);
-    }
-    if hierarchy.len() < at + ENTRY {
-        return Step::Refused(3, at);
-    }
-    judged(kinds, signatures, hierarchy, at)
-}
-
-// n entries from `at` on.
-fn entries(kinds: &[u8], signatures: &[u8], hierarchy: &[u8], n: usize, at: usize) -> Step
-    requires { (at ≤ length hierarchy.now) × (length hierarchy.now ≤ longest) }
-    ensures { result ≡ entries_by kinds.now signatures.now hierarchy.now n at }
-{
-    let mut left = n;
-    let mut here = at;
-    while left != 0 {
-        match entry(kinds, signatures, hierarchy, here) {
-            Step::Next(e) => {
-                left -= 1;
-                here = e;
-                continue;
-            }
-            Step::Refused(number, place) => return Step::Refused(number, place),
-        }
-    }
-    Step::Next(here)
-}
-
-// n entries from `at` on, with nothing left over after them.
-fn to_end(kinds: &[u8], signatures: &[u8], hierarchy: &[u8], n: usize, at: usize) -> Step
-    requires { (at ≤ length hierarchy.now) × (length hierarchy.now ≤ longest) }
-    ensures { result
-        ≡ then_step (entries_by kinds.now signatures.now hierarchy.now n at) (ended_at hierarchy.now) }
-{
-    match entries(kinds, signatures, hierarchy, n, at) {
-        Step::Next(e) => slices::ended(hierarchy, e),
-        Step::Refused(number, place) => Step::Refused(number, place),
+        Ok(at + ENTRY)
     }
 }
 
-// "2-byte count of 0 to 1,024", and the entries.
-fn list(kinds: &[u8], signatures: &[u8], hierarchy: &[u8]) -> Step
-    requires { length hierarchy.now ≤ longest }
-    ensures { result ≡ list_by kinds.now signatures.now hierarchy.now }
-{
-    if slices::count_right(hierarchy, 0, limits::HIERARCHY, HEADER) {
-        return to_end(
-            kinds,
-            signatures,
-            hierarchy,
-            wire::u16_or(hierarchy, HEADER),
-            FIRST,
-        );
-    }
-    Step::Refused(3, HEADER)
-}
-
-// Refusal n at place p, and nothing else.
-fn refused(number: u8, place: usize) -> Hierarchy
-    ensures { result ≡ refusal number place }
-{
-    Hierarchy {
-        refusal: number,
-        place,
-        entries: 0,
-    }
-}
-
-// Version and length are in order.
-fn headed(kinds: &[u8], signatures: &[u8], hierarchy: &[u8]) -> Hierarchy
-    requires { length hierarchy.now ≤ longest }
-    ensures { result ≡ told hierarchy.now (list_by kinds.now signatures.now hierarchy.now) }
-{
-    match list(kinds, signatures, hierarchy) {
-        Step::Next(_) => Hierarchy {
-            refusal: 0,
-            place: 0,
-            entries: wire::u16_or(hierarchy, HEADER),
-        },
-        Step::Refused(number, place) => refused(number, place),
-    }
-}
-
-// The hierarchy under a policy with these kinds of its constants and signatures of its verbs (crate phrases, specs/Tables).
-pub fn read(kinds: &[u8], signatures: &[u8], hierarchy: &[u8]) -> Hierarchy
+// How many entries the hierarchy has, under a policy with these kinds of its constants and signatures of its verbs (crate phrases, specs/Tables).
+#[tactic(auto, using(crate::proofs::Meaning::means))]
+pub fn read(kinds: &[u8], signatures: &[u8], hierarchy: &[u8]) -> Result<usize, Refusal>
     ensures meant { (cs : List Constant) (vs : List Verb) → Tables cs vs kinds.now signatures.now
-        → result ≡ handed_out (read_hierarchy cs vs hierarchy.now) }
-    ensures short { result.refusal ≡ 0 → length hierarchy.now ≤ longest }
+        → step_of result ≡ count_of (read_hierarchy cs vs hierarchy.now) }
+    ensures short { IfOk result (λ n. length hierarchy.now ≤ longest) }
 {
-    if !slices::version_there(hierarchy, limits::VERSION) {
-        return refused(1, 0);
-    }
-    if !slices::length_right(hierarchy) {
-        return refused(2, limits::LENGTH_AT);
-    }
-    headed(kinds, signatures, hierarchy)
+    let entries = Entries { kinds, signatures };
+    lists::only_list(&entries, hierarchy, limits::VERSION, limits::HIERARCHY)
 }
 
 // ---- what an accepted hierarchy says
@@ -217,9 +115,10 @@ pub struct Numbers {
 }
 
 // Entry k, counted from 0.
+#[tactic(auto, unfolding(model::specs::Entries::link_at))]
 pub fn entry_at(hierarchy: &[u8], k: usize) -> Numbers
     requires { k ≤ max_links }
-    ensures { result ≡ links.told (entry_at hierarchy.now k) }
+    ensures { result ≡ told (entry_at hierarchy.now k) }
 {
     let at = FIRST + ENTRY * k;
     Numbers {

@@ -2,10 +2,8 @@
 use mathlib.Core.Path.{◌≡◌, refl, sym, ap, subst, ◌∙◌}
 use mathlib.Core.List.{List}
 use Prim.Native.Nat.{ℕ, ◌≤◌}
-use native.Mathlib.Omega.{arith}
+use Rattle.std.specs.Prelude.{Result, Ok, Err}
 use lib.ListN.{length}
-use lib.Dec.{T}
-use Rattle.model.specs.Lists.{member}
 use Rattle.model.specs.Syntax as syntax
 use Rattle.model.specs.Syntax.{Policy, Constant, Verb, Withdrawal, Link}
 use Rattle.model.specs.Bytes.{Reading, got, refused}
@@ -17,7 +15,6 @@ use Rattle.model.specs.Decision.{Lent, slices, Taken, accepted, refused_on, side
 use Rattle.model.specs.Inputs.{Inputs}
 use Rattle.model.proofs.DecisionFacts.{of_slices, on_policy}
 use Rattle.demands.specs.Demands.{Call}
-use Rattle.demands.proofs.Numbers.{RefusesBy, of_request, of_withdrawals, of_hierarchy, request_numbers, withdrawals_numbers, hierarchy_numbers}
 use Rattle.wire.specs.Budget.{longest}
 use Rattle.phrases.specs.Tables.{Tables}
 use Rattle.policy.specs.Index as policies
@@ -27,9 +24,11 @@ use Rattle.policy.specs.declared.Answer.TheVariants as answered
 use Rattle.program.proofs.Accepted.{accepted_known}
 use Rattle.program.proofs.Ready.{accepted_by}
 use Rattle.request.specs.Requests as requests
-use Rattle.inputs.specs.Handed.{handed_out, after_policy}
+use Rattle.slices.specs.Steps.{number_of}
+use Rattle.inputs.specs.Handed.{side_of, said, handed_out, after_policy}
 use Rattle.inputs.specs.Accepts.{Hands}
 use Rattle.inputs.specs.declared.Handed.{Handed}
+use Rattle.inputs.specs.declared.Refused.{Refused}
 
 -- ---- an accepted policy's tables, in the words of the reader's index
 
@@ -58,54 +57,43 @@ module _ (P : Policy) where
     H : List Link
     last_link : ℕ
     linked : yh ≡ got H last_link
-    request : h.request ≡ requests.handed_out P.verbs (got q last)
+    request : h.request ≡ requests.handed_out P.verbs q
     entries : h.withdrawals ≡ length ws
     links : h.links ≡ length H
 
-  -- h tells whether they are, and if not which refusal it is
-  record Tells (y : Reading syntax.Request) (yw : Reading (List Withdrawal)) (yh : Reading (List Link)) (h : Handed) : Type 0 where
-    all : h.refusal ≡ 0 → All y yw yh h
-    none : (h.refusal ≡ 0 → ⊥) → taken y yw yh ≡ refused_on h.refusal h.side h.place
-    side : (h.refusal ≡ 0 → ⊥) → (1 ≤ h.side) × (h.side ≤ 4)
-
-  some_number : (ns : List ℕ) {n : ℕ} {A : Type 0} → (T (member 0 ns) → ⊥) → T (member n ns) → n ≡ 0 → A
-  some_number ns z t e = absurd (z (subst (λ (m : ℕ). T (member m ns)) e t))
-
-  tells : (y : Reading syntax.Request) (yw : Reading (List Withdrawal)) (yh : Reading (List Link)) → RefusesBy of_request y → RefusesBy of_withdrawals yw
-      → RefusesBy of_hierarchy yh → Tells y yw yh (handed_out (taken y yw yh))
-  unfolding sided handed_out requests.handed_out
-  tells (refused n p) yw yh k l m = record { all = some_number of_request (λ t. t) k; none = λ z. refl; side = λ z. (omega arith, omega arith) }
-  tells (got q e) (refused n p) yh k l m = record { all = some_number of_withdrawals (λ t. t) l; none = λ z. refl; side = λ z. (omega arith, omega arith) }
-  tells (got q e) (got ws f) (refused n p) k l m = record {
-    all = some_number of_hierarchy (λ t. t) m;
-    none = λ z. refl;
-    side = λ z.
-        (omega arith, omega arith);
+  all : (y : Reading syntax.Request) (yw : Reading (List Withdrawal)) (yh : Reading (List Link)) (h : Handed) → Ok h ≡ handed_out (taken y yw yh)
+      → All y yw yh h
+  unfolding sided handed_out
+  all (refused n p) yw yh h e = absurd (let z : ⊥ = cc in z)
+  all (got q m) (refused n p) yh h e = absurd (let z : ⊥ = cc in z)
+  all (got q m) (got ws k) (refused n p) h e = absurd (let z : ⊥ = cc in z)
+  all (got q m) (got ws k) (got H l) h e = record {
+    q = q;
+    last = m;
+    asked = refl;
+    ws = ws;
+    last_entry = k;
+    withdrawn = refl;
+    H = H;
+    last_link = l;
+    linked = refl;
+    request = cc;
+    entries = cc;
+    links = cc;
   }
-  tells (got q e) (got ws f) (got H g) k l m = record {
-    all = λ z. record {
-      q = q;
-      last = e;
-      asked = refl;
-      ws = ws;
-      last_entry = f;
-      withdrawn = refl;
-      H = H;
-      last_link = g;
-      linked = refl;
-      request = refl;
-      entries = refl;
-      links = refl;
-    };
-    none = λ z. absurd (z refl);
-    side = λ z. absurd (z refl);
-  }
+
+  none : (t : Taken) (n side p : ℕ) → Err (n, side, p) ≡ handed_out t → t ≡ refused_on n side p
+  unfolding handed_out
+  none (accepted R) n side p e = absurd (let z : ⊥ = cc in z)
+  none (refused_on m s q) n side p e =
+      let same : ◌≡◌ {A = ℕ × ℕ × ℕ} (n, side, p) (m, s, q) = cc in
+      ap (λ (x : ℕ × ℕ × ℕ). refused_on x.0 x.1 x.2) (sym same)
 
 -- ---- under an accepted policy
 
 module _ (policy request withdrawals hierarchy : List ℕ) (x : Index) (i : x ≡ policies.handed_out (read_policy policy)) (a : x.answer ≡ answered.Accepted)
-    (h : Handed) (means : (P : Policy) → Tables P.constants P.verbs x.kinds x.signatures
-    → h ≡ handed_out (after_policy P request withdrawals hierarchy)) where
+    (z : Result Handed Refused) (means : (P : Policy) → Tables P.constants P.verbs x.kinds x.signatures
+    → said z ≡ handed_out (after_policy P request withdrawals hierarchy)) where
   policy_got : (A : Accepted) × (e : ℕ) × (read_policy policy ≡ got A e)
   policy_got = accepted_by policy x i a
 
@@ -115,20 +103,15 @@ module _ (policy request withdrawals hierarchy : List ℕ) (x : Index) (i : x �
   abbrev P : Policy
   P = policy_of A
 
-  told : Tells P (read_request P.constants P.verbs request) (read_withdrawals P.constants withdrawals)
-      (read_hierarchy P.constants P.verbs hierarchy) h
-  told =
-      let w = policy_got in
-      subst (Tells P (read_request P.constants P.verbs request) (read_withdrawals P.constants withdrawals)
-      (read_hierarchy P.constants P.verbs hierarchy)) (sym (means P (tables policy w.0 w.1 w.2 x i)))
-      (tells P _ _ _ (request_numbers P.constants P.verbs request) (withdrawals_numbers P.constants withdrawals)
-      (hierarchy_numbers P.constants P.verbs hierarchy))
+  told : said z ≡ handed_out (after_policy P request withdrawals hierarchy)
+  told = let w = policy_got in means P (tables policy w.0 w.1 w.2 x i)
 
-  pub hands : h.refusal ≡ 0 → (length request ≤ longest) × (length hierarchy ≤ longest)
-      → (B : Accepted) × (q : syntax.Request) × (ws : List Withdrawal) × (H : List Link) × Hands policy request withdrawals hierarchy x h B q ws H
-  hands z s =
+  pub hands : (h : Handed) → z ≡ Ok h → (length request ≤ longest) × (length hierarchy ≤ longest)
+      → (B : Accepted) × (q : syntax.Request) × (ws : List syntax.Withdrawal) × (H : List syntax.Link) × Hands policy request withdrawals hierarchy x h B q ws H
+  hands h e s =
       let w = policy_got in
-      let t = told.all z in (
+      let t = all P (read_request P.constants P.verbs request) (read_withdrawals P.constants withdrawals)
+      (read_hierarchy P.constants P.verbs hierarchy) h (sym (ap said e) ∙ told) in (
         w.0,
         t.q,
         t.ws,
@@ -136,7 +119,7 @@ module _ (policy request withdrawals hierarchy : List ℕ) (x : Index) (i : x �
         record {
           takes = record {
             accepts = record { end = w.1; read = w.2; index = i; last = t.last; asked = t.asked };
-            handed = t.request ∙ sym (ap (requests.handed_out P.verbs) t.asked);
+            handed = t.request;
             short = s.0;
           };
           withdraws = record { end = t.last_entry; read = t.withdrawn; counts = t.entries };
@@ -144,13 +127,11 @@ module _ (policy request withdrawals hierarchy : List ℕ) (x : Index) (i : x �
         },
       )
 
-  pub refuses : (h.refusal ≡ 0 → ⊥) → read_slices (slices policy request withdrawals hierarchy) ≡ refused_on h.refusal h.side h.place
-  refuses z =
+  pub refuses : (r : Refused) → z ≡ Err r
+      → read_slices (slices policy request withdrawals hierarchy) ≡ refused_on (number_of r.refusal.reason) (side_of r.side) r.refusal.place
+  refuses r e =
       let w = policy_got in
-      on_policy (slices policy request withdrawals hierarchy) P (w.0, w.1, w.2, refl) ∙ told.none z
-
-  pub on_side : (h.refusal ≡ 0 → ⊥) → (1 ≤ h.side) × (h.side ≤ 4)
-  on_side = told.side
+      on_policy (slices policy request withdrawals hierarchy) P (w.0, w.1, w.2, refl) ∙ none P _ _ _ _ (sym (ap said e) ∙ told)
 
 -- what the model reports then
 pub refused_call : (l : Lent) (n side p : ℕ) → read_slices l.slices ≡ refused_on n side p → Call l (untouched n side p l)

@@ -1,132 +1,96 @@
--- What each reader hands out tells what it read: refusal 0 only if it accepts, since no refusal has the number 0.
-use mathlib.Core.Path.{◌≡◌, refl, sym, ap, subst, ◌∙◌}
-use mathlib.Core.List.{List}
-use Prim.Native.Nat.{ℕ}
-use lib.Dec.{T}
-use lib.ListN.{length}
-use Rattle.model.specs.Lists.{member}
+-- What the three readers hand out tells what they read; taken together it is what the model takes.
+use Rattle.std.proofs.Common.{◌≡◌, ℕ, List, length, refl, sym, ap}
+use Rattle.std.specs.Prelude.{Result, Ok, Err}
 use Rattle.model.specs.Syntax as syntax
 use Rattle.model.specs.Syntax.{Policy, Verb, Withdrawal, Link}
 use Rattle.model.specs.Bytes.{Reading, got, refused}
-use Rattle.model.specs.Deciding.{read}
-use Rattle.model.specs.Decision.{Taken, accepted, sided}
-use Rattle.demands.proofs.Numbers.{RefusesBy, of_request, of_withdrawals, of_hierarchy}
+use Rattle.model.specs.Nodes.{read_request}
+use Rattle.model.specs.Entries.{read_withdrawals, read_hierarchy}
+use Rattle.model.specs.Decision.{sided}
+use Rattle.slices.specs.Steps.{Next}
+use Rattle.slices.specs.Steps.{Refused as Stopped}
+use Rattle.slices.specs.Lists.{count_of}
 use Rattle.request.specs.Requests as requests
 use Rattle.request.specs.declared.Request.{Request}
-use Rattle.withdrawals.specs.Reading as withdrawals
-use Rattle.withdrawals.specs.declared.Withdrawals.{Withdrawals}
-use Rattle.hierarchy.specs.Reading as hierarchy
-use Rattle.hierarchy.specs.declared.Hierarchy.{Hierarchy}
-use Rattle.inputs.specs.Handed.{handed_out, after_withdrawals, after_request}
+use Rattle.slices.specs.declared.Refusal.{Refusal}
+use Rattle.inputs.specs.Handed.{on_side, handed_out, after_policy}
 use Rattle.inputs.specs.declared.Handed.{Handed}
+use Rattle.inputs.specs.declared.Refused.{Refused}
+use Rattle.inputs.specs.declared.Side.{Side}
 
--- a refusal's number and place
-abbrev pub refused_with : ℕ → ℕ → ℕ → Handed
-refused_with n side p = record { refusal = n; side = side; place = p; request = requests.refusal 0 0; withdrawals = 0; links = 0 }
+-- ---- entries, from their count
 
--- where a request ended is not handed out
-any_end : (vs : List Verb) (q : syntax.Request) (e : ℕ) → requests.handed_out vs (got q e) ≡ requests.handed_out vs (got q 0)
-unfolding requests.handed_out
-any_end vs q e = refl
+module _ {A : Type 0} where
+  pub count_got : (y : Reading (List A)) (n : ℕ) → Next n ≡ count_of y → (xs : List A) × (e : ℕ) × (y ≡ got xs e) × (n ≡ length xs)
+  unfolding count_of
+  count_got (got xs e) n h = (xs, e, refl, cc)
+  count_got (refused m p) n h = absurd (let z : ⊥ = cc in z)
 
--- ---- the hierarchy
+  pub count_refused : (y : Reading (List A)) (n p : ℕ) → Stopped n p ≡ count_of y → y ≡ refused n p
+  unfolding count_of
+  count_refused (got xs e) n p h = absurd (let z : ⊥ = cc in z)
+  count_refused (refused m q) n p h = cc
 
-module _ (P : Policy) (q : syntax.Request) (ws : List Withdrawal) where
-  abbrev on_hierarchy : Reading (List Link) → Taken
-  on_hierarchy y = sided 4 y (λ (H : List Link). accepted (read P q ws H))
+-- ---- a request
 
-  hierarchy_refused : (y : Reading (List Link)) → ((hierarchy.handed_out y).refusal ≡ 0 → ⊥)
-      → refused_with (hierarchy.handed_out y).refusal 4 (hierarchy.handed_out y).place ≡ handed_out (on_hierarchy y)
-  unfolding hierarchy.handed_out handed_out sided
-  hierarchy_refused (got H e) z = absurd (z refl)
-  hierarchy_refused (refused n p) z = refl
+module _ (vs : List Verb) where
+  pub request_got : (y : Reading syntax.Request) (r : Request) → Ok r ≡ requests.answered vs y
+      → (q : syntax.Request) × (e : ℕ) × (y ≡ got q e) × (r ≡ requests.handed_out vs q)
+  request_got (got q e) r h = (q, e, refl, cc)
+  request_got (refused n p) r h = absurd (let z : ⊥ = cc in z)
 
-  hierarchy_got : (y : Reading (List Link)) → RefusesBy of_hierarchy y → (hierarchy.handed_out y).refusal ≡ 0
-      → record {
-        refusal = 0;
-        side = 0;
-        place = 0;
-        request = requests.handed_out P.verbs (got q 0);
-        withdrawals = length ws;
-        links = (hierarchy.handed_out y).entries;
-      } ≡ handed_out (on_hierarchy y)
-  unfolding hierarchy.handed_out handed_out sided
-  hierarchy_got (got H e) k z = refl
-  hierarchy_got (refused n p) k z = absurd (subst (λ (m : ℕ). T (member m of_hierarchy)) z k)
+  pub request_refused : (y : Reading syntax.Request) (n p : ℕ) → Err (n, p) ≡ requests.answered vs y → y ≡ refused n p
+  request_refused (got q e) n p h = absurd (let z : ⊥ = cc in z)
+  request_refused (refused m q) n p h =
+      let same : ◌≡◌ {A = ℕ × ℕ} (n, p) (m, q) = cc in
+      ap (λ (x : ℕ × ℕ). refused x.0 x.1) (sym same)
 
-  -- in the words of what the reader handed out
-  pub refuses_hierarchy : {h : Hierarchy} (y : Reading (List Link)) → h ≡ hierarchy.handed_out y → (h.refusal ≡ 0 → ⊥)
-      → refused_with h.refusal 4 h.place ≡ handed_out (on_hierarchy y)
-  refuses_hierarchy y e z =
-      subst (λ (h : Hierarchy). (h.refusal ≡ 0 → ⊥) → refused_with h.refusal 4 h.place ≡ handed_out (on_hierarchy y)) (sym e) (hierarchy_refused y) z
+-- ---- with its side
 
-  pub takes_hierarchy : {r : Request} {n : ℕ} {h : Hierarchy} (y : Reading (List Link)) → RefusesBy of_hierarchy y → h ≡ hierarchy.handed_out y
-      → h.refusal ≡ 0 → (e : ℕ) → r ≡ requests.handed_out P.verbs (got q e) → n ≡ length ws
-      → record { refusal = 0; side = 0; place = 0; request = r; withdrawals = n; links = h.entries } ≡ handed_out (on_hierarchy y)
-  takes_hierarchy y k h z e f g =
-      let r = f ∙ any_end P.verbs q e in
-      (λ i. record { refusal = 0; side = 0; place = 0; request = r i; withdrawals = g i; links = (h i).entries })
-      ∙ hierarchy_got y k (ap (λ (h : Hierarchy). h.refusal) (sym h) ∙ z)
+module _ {A : Type 0} (side : Side) where
+  pub says_ok : (z : Result A Refusal) (x : A) → on_side side z ≡ Ok x → z ≡ Ok x
+  says_ok (Ok y) x h = let e : y ≡ x = cc in ap Ok e
+  says_ok (Err r) x h = absurd (let z : ⊥ = cc in z)
 
--- ---- the withdrawals
+  pub says_err : (z : Result A Refusal) (e : Refused) → on_side side z ≡ Err e → (r : Refusal) × (z ≡ Err r) × (e ≡ record { side = side; refusal = r })
+  says_err (Ok y) e h = absurd (let z : ⊥ = cc in z)
+  says_err (Err r) e h = (r, refl, cc)
 
-module _ (P : Policy) (q : syntax.Request) (h : List ℕ) where
-  abbrev on_withdrawals : Reading (List Withdrawal) → Taken
-  on_withdrawals y = sided 3 y (λ (ws : List Withdrawal). after_withdrawals P q ws h)
+-- ---- one after the other
 
-  withdrawals_refused : (y : Reading (List Withdrawal)) → ((withdrawals.handed_out y).refusal ≡ 0 → ⊥)
-      → refused_with (withdrawals.handed_out y).refusal 3 (withdrawals.handed_out y).place ≡ handed_out (on_withdrawals y)
-  unfolding withdrawals.handed_out handed_out sided
-  withdrawals_refused (got ws e) z = absurd (z refl)
-  withdrawals_refused (refused n p) z = refl
+same : {r r' : Request} {m m' n n' : ℕ} → r ≡ r' → m ≡ m' → n ≡ n' → ◌≡◌ {A = Result Handed (ℕ × ℕ × ℕ)}
+    (Ok (record { request = r; withdrawals = m; links = n })) (Ok (record { request = r'; withdrawals = m'; links = n' }))
+same e f g = rw (e, f, g)
 
-  -- the entries that are handed on are those that are read
-  withdrawals_got : (y : Reading (List Withdrawal)) → RefusesBy of_withdrawals y → (withdrawals.handed_out y).refusal ≡ 0
-      → (ws : List Withdrawal) × ((withdrawals.handed_out y).entries ≡ length ws) × (on_withdrawals y ≡ after_withdrawals P q ws h)
-  unfolding withdrawals.handed_out sided
-  withdrawals_got (got ws e) k z = (ws, refl, refl)
-  withdrawals_got (refused n p) k z = absurd (subst (λ (m : ℕ). T (member m of_withdrawals)) z k)
+module _ (P : Policy) (request withdrawals hierarchy : List ℕ) where
+  abbrev asked : Reading syntax.Request
+  asked = read_request P.constants P.verbs request
 
-  pub refuses_withdrawals : {r : Withdrawals} (y : Reading (List Withdrawal)) → r ≡ withdrawals.handed_out y → (r.refusal ≡ 0 → ⊥)
-      → refused_with r.refusal 3 r.place ≡ handed_out (on_withdrawals y)
-  refuses_withdrawals y e z =
-      subst (λ (r : Withdrawals). (r.refusal ≡ 0 → ⊥) → refused_with r.refusal 3 r.place ≡ handed_out (on_withdrawals y)) (sym e) (withdrawals_refused y) z
+  abbrev withdrawn : Reading (List Withdrawal)
+  withdrawn = read_withdrawals P.constants withdrawals
 
-  pub takes_withdrawals : {r : Withdrawals} (y : Reading (List Withdrawal)) → RefusesBy of_withdrawals y → r ≡ withdrawals.handed_out y → r.refusal ≡ 0
-      → (ws : List Withdrawal) × (r.entries ≡ length ws) × (on_withdrawals y ≡ after_withdrawals P q ws h)
-  takes_withdrawals y k e z =
-      let w = withdrawals_got y k (ap (λ (r : Withdrawals). r.refusal) (sym e) ∙ z) in
-      (w.0, ap (λ (r : Withdrawals). r.entries) e ∙ w.1, w.2)
+  abbrev linked : Reading (List Link)
+  linked = read_hierarchy P.constants P.verbs hierarchy
 
--- ---- the request
+  pub refused_first : (n p : ℕ) → Err (n, p) ≡ requests.answered P.verbs asked → Err (n, 2, p) ≡ handed_out (after_policy P request withdrawals hierarchy)
+  unfolding handed_out sided
+  refused_first n p h = rw (request_refused P.verbs asked n p h)
 
-module _ (P : Policy) (w h : List ℕ) where
-  abbrev on_request : Reading syntax.Request → Taken
-  on_request y = sided 2 y (λ (q : syntax.Request). after_request P q w h)
+  module _ (r : Request) (h : Ok r ≡ requests.answered P.verbs asked) where
+    pub refused_second : (n p : ℕ) → Stopped n p ≡ count_of withdrawn → Err (n, 3, p) ≡ handed_out (after_policy P request withdrawals hierarchy)
+    unfolding handed_out sided
+    refused_second n p g = rw ((request_got P.verbs asked r h).2, count_refused withdrawn n p g)
 
-  request_refused : (y : Reading syntax.Request) → ((requests.handed_out P.verbs y).refusal ≡ 0 → ⊥)
-      → refused_with (requests.handed_out P.verbs y).refusal 2 (requests.handed_out P.verbs y).place ≡ handed_out (on_request y)
-  unfolding requests.handed_out handed_out sided
-  request_refused (got q e) z = absurd (z refl)
-  request_refused (refused n p) z = refl
+    module _ (m : ℕ) (g : Next m ≡ count_of withdrawn) where
+      pub refused_third : (n p : ℕ) → Stopped n p ≡ count_of linked → Err (n, 4, p) ≡ handed_out (after_policy P request withdrawals hierarchy)
+      unfolding handed_out sided
+      refused_third n p f = rw ((request_got P.verbs asked r h).2, (count_got withdrawn m g).2, count_refused linked n p f)
 
-  request_got : (y : Reading syntax.Request) → RefusesBy of_request y → (requests.handed_out P.verbs y).refusal ≡ 0
-      → (q : syntax.Request) × (e : ℕ) × (y ≡ got q e) × (on_request y ≡ after_request P q w h)
-  unfolding requests.handed_out sided
-  request_got (got q e) k z = (q, e, refl, refl)
-  request_got (refused n p) k z = absurd (subst (λ (m : ℕ). T (member m of_request)) z k)
-
-  pub refuses_request : {r : Request} (y : Reading syntax.Request) → r ≡ requests.handed_out P.verbs y → (r.refusal ≡ 0 → ⊥)
-      → refused_with r.refusal 2 r.place ≡ handed_out (on_request y)
-  refuses_request y e z =
-      subst (λ (r : Request). (r.refusal ≡ 0 → ⊥) → refused_with r.refusal 2 r.place ≡ handed_out (on_request y)) (sym e) (request_refused y) z
-
-  pub takes_request : {r : Request} (y : Reading syntax.Request) → RefusesBy of_request y → r ≡ requests.handed_out P.verbs y → r.refusal ≡ 0
-      → (q : syntax.Request) × (e : ℕ) × (r ≡ requests.handed_out P.verbs (got q e)) × (on_request y ≡ after_request P q w h)
-  takes_request y k e z =
-      let v = request_got y k (ap (λ (r : Request). r.refusal) (sym e) ∙ z) in
-      (v.0, v.1, e ∙ ap (requests.handed_out P.verbs) v.2, v.3)
-
--- a refusal is not accepted
-pub not_taken : {h : Handed} {n side p : ℕ} {A : Type 0} → h ≡ refused_with n side p → (n ≡ 0 → ⊥) → h.refusal ≡ 0 → A
-not_taken e z k = absurd (z (ap (λ (h : Handed). h.refusal) (sym e) ∙ k))
+      pub all_taken : (n : ℕ) → Next n ≡ count_of linked
+          → Ok (record { request = r; withdrawals = m; links = n }) ≡ handed_out (after_policy P request withdrawals hierarchy)
+      unfolding handed_out sided
+      all_taken n f =
+          let a = request_got P.verbs asked r h in
+          let b = count_got withdrawn m g in
+          let c = count_got linked n f in
+          rw (a.2, b.2, c.2) (same a.3 b.3 c.3)

@@ -23,7 +23,7 @@ pub record Accepts (policy request : List ℕ) (x : Index) (A : Accepted) (q : s
 -- and r is what the request's reader handed out
 pub record Takes (policy request : List ℕ) (x : Index) (r : Request) (A : Accepted) (q : syntax.Request) : Type 0 where
   pub accepts : Accepts policy request x A q
-  pub handed : r ≡ requests.handed_out (policy_of A).verbs (read_request (policy_of A).constants (policy_of A).verbs request)
+  pub handed : r ≡ requests.handed_out (policy_of A).verbs q
   pub short : length request ≤ longest
 
 -- the withdrawals, which have so many entries

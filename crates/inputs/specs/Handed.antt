@@ -1,27 +1,44 @@
 -- The slices after the policy, read in their order, and what is handed out of them.
-use Rattle.std.specs.Prelude.{ℕ, List, length}
+use Rattle.std.specs.Prelude.{ℕ, List, length, Result, Ok, Err}
 use Rattle.model.specs.Syntax as syntax
 use Rattle.model.specs.Syntax.{Policy, Withdrawal, Link}
-use Rattle.model.specs.Bytes.{got}
 use Rattle.model.specs.Nodes.{read_request}
 use Rattle.model.specs.Entries.{read_withdrawals, read_hierarchy}
 use Rattle.model.specs.Deciding.{read}
 use Rattle.model.specs.Decision.{Taken, accepted, refused_on, sided}
 use Rattle.request.specs.Requests as requests
+use Rattle.slices.specs.Steps.{number_of}
+use Rattle.slices.specs.declared.Refusal.{Refusal}
 use Rattle.inputs.specs.declared.Handed.{Handed}
+use Rattle.inputs.specs.declared.Refused.{Refused}
+use Rattle.inputs.specs.declared.Side.{Side}
+use Rattle.inputs.specs.declared.Side.TheVariants as sides
 
 -- ---- THE PROMISE: what the slices say under an accepted policy, or "a refusal's number, side and place", as the code gives it
 
-unfoldable pub handed_out : Taken → Handed
-handed_out (accepted R) = record {
-  refusal = 0;
-  side = 0;
-  place = 0;
-  request = requests.handed_out R.policy.verbs (got R.request 0);
+unfoldable pub handed_out : Taken → Result Handed (ℕ × ℕ × ℕ)
+handed_out (accepted R) = Ok (record {
+  request = requests.handed_out R.policy.verbs R.request;
   withdrawals = length R.withdrawals;
   links = length R.hierarchy;
-}
-handed_out (refused_on n side p) = record { refusal = n; side = side; place = p; request = requests.refusal 0 0; withdrawals = 0; links = 0 }
+})
+handed_out (refused_on n side p) = Err (n, side, p)
+
+-- a slice's number
+abbrev pub side_of : Side → ℕ
+side_of sides.Request = 2
+side_of sides.Withdrawals = 3
+side_of sides.Hierarchy = 4
+
+-- what a slice's reader says, with its side
+abbrev pub on_side : {A : Type 0} → Side → Result A Refusal → Result A Refused
+on_side side (Ok x) = Ok x
+on_side side (Err r) = Err (record { side = side; refusal = r })
+
+-- what the code's result says
+abbrev pub said : Result Handed Refused → Result Handed (ℕ × ℕ × ℕ)
+said (Ok h) = Ok h
+said (Err r) = Err (number_of r.refusal.reason, side_of r.side, r.refusal.place)
 
 -- "the withdrawals with side 3, after the request", the hierarchy "with side 4, after side 3"
 module _ (P : Policy) where

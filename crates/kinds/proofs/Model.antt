@@ -10,13 +10,12 @@ use native.Mathlib.Omega.{arith}
 use lib.Dec.{T, eqb, ltb, eqb→eq, ltb→lt, lt→ltb, leb, leb→le}
 use lib.ListN.{length, get_or, get_or-eq_default}
 use borrow.Author.Tests.{lt-ltb, le-ltb}
-use Rattle.model.specs.Bytes.{choose}
 use Rattle.model.specs.Lists.{all, each}
 use Rattle.model.specs.Syntax.{Expr, con, var, today, Constraint, Constant, vars_of, vars_test}
 use Rattle.model.specs.Kinds.{Demands, kind_at, kind_under, in_place, operands, comparable, meets, fitting, kinds, occurring, kind_of}
 use Rattle.model.proofs.ListFacts.{and_of, and_in, or_of, or_left, or_right, eqb_in, each_of, all_of_law}
 use Rattle.model.proofs.KindFacts.{fitting↔, one_kind_law}
-use Rattle.wire.proofs.Reading.{choose_true, choose_false}
+use Rattle.std.proofs.Common.{Some, is_some}
 use Rattle.kinds.specs.Cells.{Ask, same, number, feed, nothing}
 use Rattle.kinds.specs.Asks.{kind_term, var_term, term_of, place_term, ask_place, operator_asks, ask_test, asks_for, Regular}
 use Rattle.kinds.specs.Choices.{Choice, kind_in, Meets, MeetsAll}
@@ -33,25 +32,23 @@ data Stands (κ : List ℕ) (a k : ℕ) : Type 0 where
 
 module _ (κ : List ℕ) (K : Choice κ) where
   of_kind_law : (k : ℕ) → k ≤ 4 → Stands κ (kind_term k) k
-  unfolding kind_term
-  of_kind_law zero h = alone (rw (choose_true {b = ltb 0 1} 12 (choose (ltb 4 0) 12 (0 + 7)) refl) (omega arith)) refl
+  of_kind_law zero h = alone (omega arith) refl
   of_kind_law (suc k) h =
       let e : kind_term (suc k) ≡ suc k + 7 = kind_term_law (suc k) (omega arith) h in
       let d : suc k + 7 - 7 ≡ suc k = omega arith in
       for (rw e (omega arith)) (rw e (term_fixed κ (suc k + 7) (omega arith) ∙ d)) (omega arith) h
 
   of_var : (v : ℕ) → Stands κ (var_term v) (get_or κ v 0)
-  unfolding var_term
   of_var v = go (dec_lt v 8)
     where
       go : Dec (v < 8) → Stands κ (var_term v) (get_or κ v 0)
       go (yes h) =
           let k = K.1 v h in
-          let e : var_term v ≡ v = choose_false 12 v (le-ltb 7 v (omega arith)) in
+          let e : var_term v ≡ v = rw (lt-ltb v 8 h) in
           for (rw e (omega arith)) (rw e (term_var κ v h)) k.0 k.1
       go (no h) =
           let l : length κ ≡ 8 = K.0 in
-          let e : var_term v ≡ 12 = choose_true 12 v (lt-ltb 7 v (omega arith)) in
+          let e : var_term v ≡ 12 = rw (le-ltb v 8 (omega arith)) in
           alone (rw e (omega arith)) (get_or-eq_default κ 0 (omega arith))
 
   -- what the asks say of the kinds
@@ -104,7 +101,7 @@ module _ (κ : List ℕ) (K : Choice κ) where
     )
 
     test_kinds : (op : ℕ) → 1 ≤ op → op ≤ 5 → {a b k l : ℕ} → Stands κ a k → Stands κ b l → T (operands op k l) ↔ MeetsAll κ (same a b ∷ operator_asks op a)
-    unfolding operator_asks choose
+    unfolding operator_asks
     test_kinds zero lo hi s r = absurd (omega arith)
     test_kinds (suc zero) lo hi s r = equal_kinds s r
     test_kinds (suc (suc zero)) lo hi s r = equal_kinds s r
@@ -195,8 +192,7 @@ same_test false false f g = refl
 -- the variables that occur are among the eight, where some choice meets what is asked
 module _ (cs : List Constant) where
   low_var : (v : ℕ) → var_term v ≤ 11 → v < 8
-  unfolding var_term
-  low_var v h = by_lt v 8 (λ l. l) (λ l. absurd (let e : var_term v ≡ 12 = choose_true 12 v (lt-ltb 7 v (omega arith)) in omega arith))
+  low_var v h = by_lt v 8 (λ l. l) (λ l. absurd (let e : var_term v ≡ 12 = rw (le-ltb v 8 l) in omega arith))
 
   low_place : (e : Expr) (v : ℕ) → Memᴰ v (vars_of e) → place_term cs e ≤ 11 → v < 8
   unfolding place_term
@@ -232,8 +228,8 @@ module _ (cs : List Constant) where
 
 module _ (cs : List Constant) (D : Demands) (R : Regular cs D) where
   -- LAW C, for asks that come to the same: the cells are good exactly if a choice of kinds fits
-  pub fits_asks : (qs : List Ask) → ((κ : List ℕ) → MeetsAll κ qs ↔ MeetsAll κ (asks_for cs D)) → (feed qs nothing).ok ≡ fitting cs D
-  fits_asks qs h = same_test (feed qs nothing).ok (fitting cs D)
+  pub fits_asks : (qs : List Ask) → ((κ : List ℕ) → MeetsAll κ qs ↔ MeetsAll κ (asks_for cs D)) → is_some (feed qs nothing) ≡ fitting cs D
+  fits_asks qs h = same_test (is_some (feed qs nothing)) (fitting cs D)
       (λ e.
       let r = (feed_law qs).0 e in
       let met = (meets_asks cs D R r.0 r.1).1 ((h r.0).0 r.2) in
@@ -243,7 +239,7 @@ module _ (cs : List Constant) (D : Demands) (R : Regular cs D) where
       (feed_law qs).1 (r.0, K, (h r.0).1 ((meets_asks cs D R r.0 K).0 r.3)))
 
   -- LAW C
-  pub fits : (feed (asks_for cs D) nothing).ok ≡ fitting cs D
+  pub fits : is_some (feed (asks_for cs D) nothing) ≡ fitting cs D
   fits = fits_asks (asks_for cs D) (λ κ. (λ m. m, λ m. m))
 
   -- where a choice fits, the variables are among the eight
@@ -253,13 +249,13 @@ module _ (cs : List Constant) (D : Demands) (R : Regular cs D) where
       low_vars cs D r.0 ((meets_asks cs D R r.0 K).0 r.3)
 
   -- LAW D, in the model's words: the cell of a variable with a place in a fact has its kind
-  pub kind_cell : (qs : List Ask) → ((κ : List ℕ) → MeetsAll κ qs ↔ MeetsAll κ (asks_for cs D)) → (feed qs nothing).ok ≡ true
-      → (v : ℕ) → (¬ (kind_of D.places v ≡ 0)) → get_or (feed qs nothing).of v 0 ≡ kind_of D.places v + 7
-  kind_cell qs h e v n = sole_kind qs e v (kind_of D.places v) low one
+  pub kind_cell : (qs : List Ask) → ((κ : List ℕ) → MeetsAll κ qs ↔ MeetsAll κ (asks_for cs D)) → (t : List ℕ) → feed qs nothing ≡ Some t
+      → (v : ℕ) → (¬ (kind_of D.places v ≡ 0)) → get_or t v 0 ≡ kind_of D.places v + 7
+  kind_cell qs h t e v n = sole_kind qs t e v (kind_of D.places v) low one
     where
       one : (κ : List ℕ) → Choice κ → MeetsAll κ qs → get_or κ v 0 ≡ kind_of D.places v
       one κ K m =
           one_kind_law cs κ D.places (and_of (all (in_place cs κ) D.places) (all (comparable cs κ) D.tests) ((meets_asks cs D R κ K).1 ((h κ).0 m))).0 v n
 
       low : v < 8
-      low = let r = (feed_law qs).0 e in below_length r.0 8 r.1.0 v (λ z. n (sym (one r.0 r.1 r.2) ∙ z))
+      low = let r = (feed_law qs).0 (rw e) in below_length r.0 8 r.1.0 v (λ z. n (sym (one r.0 r.1 r.2) ∙ z))

@@ -1,7 +1,6 @@
 -- What the demands of an item ask of the kinds, ask by ask.
-use Rattle.std.specs.Prelude.{ℕ, ◌+◌, ◌≤◌, ltb, eqb}
+use Rattle.std.specs.Prelude.{ℕ, ◌+◌, ◌≤◌, ◌==◌, ◌||◌, nat_lt, if◌then◌else◌}
 use mathlib.Core.List.{List, [], ◌∷◌, ◌++◌, map, Memᴰ}
-use Rattle.model.specs.Bytes.{choose}
 use Rattle.model.specs.Limits.{max_operator, quantity}
 use Rattle.model.specs.Lists.{each}
 use Rattle.model.specs.Syntax.{Expr, con, var, today, Constraint, Constant}
@@ -11,12 +10,12 @@ use Rattle.kinds.specs.Cells.{Ask, same, number}
 -- ---- terms
 
 -- anything of kind k; kind 0 is that of a number with no constant
-unfoldable pub kind_term : ℕ → ℕ
-kind_term k = choose (ltb k 1) 12 (choose (ltb 4 k) 12 (k + 7))
+abbrev pub kind_term : ℕ → ℕ
+kind_term k = if nat_lt k 1 || nat_lt 4 k then 12 else k + 7
 
 -- variable v: there are eight
-unfoldable pub var_term : ℕ → ℕ
-var_term v = choose (ltb 7 v) 12 v
+abbrev pub var_term : ℕ → ℕ
+var_term v = if nat_lt v 8 then v else 12
 
 -- an expression in a constraint
 unfoldable pub term_of : List Constant → Expr → ℕ
@@ -39,9 +38,10 @@ ask_place cs p = same (place_term cs p.1) (kind_term p.0)
 -- what operator op asks beyond operands of one kind, l being the left: 3 days or quantities; 4 things; 5 days
 unfoldable pub operator_asks : ℕ → ℕ → List Ask
 operator_asks op l =
-    choose (ltb op 3) []
-    (choose (eqb op 3) (number l ∷ [])
-    (choose (eqb op 4) (same l 9 ∷ []) (same l 10 ∷ [])))
+    if nat_lt op 3 then []
+    else if op == 3 then number l ∷ []
+    else if op == 4 then same l 9 ∷ []
+    else same l 10 ∷ []
 
 unfoldable pub ask_test : List Constant → Constraint → List Ask
 ask_test cs c = same (term_of cs c.left) (term_of cs c.right) ∷ operator_asks c.op (term_of cs c.left)

@@ -1,6 +1,5 @@
 -- What the asks mean: a choice of kinds for the variables meets them.
-use Rattle.std.specs.Prelude.{ℕ, ◌-◌, ◌≤◌, ◌<◌, ◌≡◌, List, [], ◌∷◌, ltb, length, get_or}
-use Rattle.model.specs.Bytes.{choose}
+use Rattle.std.specs.Prelude.{ℕ, ◌-◌, ◌≤◌, ◌<◌, ◌≡◌, List, [], ◌∷◌, length, get_or, nat_lt, if◌then◌else◌}
 use Rattle.kinds.specs.Cells.{Ask, same, number}
 
 -- a kind of 1 to 4 for each of the eight variables
@@ -9,7 +8,7 @@ Choice κ = (length κ ≡ 8) × ((v : ℕ) → v < 8 → (1 ≤ get_or κ v 0) 
 
 -- the kind of a term
 unfoldable pub kind_in : List ℕ → ℕ → ℕ
-kind_in κ x = choose (ltb x 8) (get_or κ x 0) (x - 7)
+kind_in κ x = if nat_lt x 8 then get_or κ x 0 else x - 7
 
 abbrev pub Meets : List ℕ → Ask → Type 0
 Meets κ (same l r) = (l ≤ 11) × (r ≤ 11) × (kind_in κ l ≡ kind_in κ r)

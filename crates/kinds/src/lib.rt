@@ -2,7 +2,7 @@
 #![tactic(auto)]
 
 ghost use Rattle.std.specs.Prelude.{◌≡◌, ◌<◌, ◌≤◌};
-ghost use Rattle.kinds.specs.Cells.{relabel, cell_of, settled, merged, counted, alike, numbered};
+ghost use Rattle.kinds.specs.Cells.{renamed, relabel, cell_of, settled, merged, counted, alike, numbered};
 
 use limits::VARIABLES;
 
@@ -20,111 +20,99 @@ pub const NO_FIT: u8 = ANY_PRINCIPAL + 4;
 // A cell is the variable that leads its class, a kind's term, or this and the variable that leads a class of days or quantities.
 const OPEN_NUMBER: u8 = NO_FIT;
 
-// Whether what was asked fits, and the variables' cells after it.
-#[derive(Clone, Copy)]
-pub struct Fit {
-    pub of: [u8; VARIABLES],
-    pub ok: bool,
+// A cell for each variable.
+pub type Cells = [u8; VARIABLES];
+
+// A cell c, after a has become b.
+fn renamed(c: u8, a: u8, b: u8) -> u8
+    ensures { result ≡ renamed a b c }
+{
+    if c == a { b } else { c }
 }
 
-// Every cell a among the first n becomes b.
-fn relabel(t: [u8; VARIABLES], n: usize, a: u8, b: u8) -> [u8; VARIABLES]
-    requires { n ≤ 8 }
-    ensures { result ≡ relabel n t a b }
+// Every cell a becomes b.
+fn relabel(t: Cells, a: u8, b: u8) -> Cells
+    ensures { result ≡ relabel t a b }
 {
-    if n == 0 {
-        return t;
+    let mut u = t;
+    for c in u.iter_mut() {
+        *c = renamed(*c, a, b);
     }
-    if t[n - 1] == a {
-        let mut u = t;
-        u[n - 1] = b;
-        return relabel(u, n - 1, a, b);
-    }
-    relabel(t, n - 1, a, b)
+    u
 }
 
 // The cell of a term.
-fn cell_of(t: [u8; VARIABLES], x: u8) -> u8
+fn cell_of(t: Cells, x: u8) -> u8
     ensures { result ≡ cell_of t x }
 {
-    if x < ANY_PRINCIPAL {
-        return t[x as usize];
-    }
-    x
+    if x < ANY_PRINCIPAL { t[x as usize] } else { x }
 }
 
 // Cells a and b, two kinds or classes of days or quantities, become one.
-fn settled(t: [u8; VARIABLES], a: u8, b: u8) -> Fit
+#[tactic(auto, unfolding(crate::specs::Cells::settled))]
+fn settled(t: Cells, a: u8, b: u8) -> Option<Cells>
     ensures { result ≡ settled t a b }
 {
-    if a < ANY_DAY {
-        return Fit { ok: false, of: t };
+    if a < ANY_DAY || b < ANY_DAY {
+        None
+    } else if ANY_QUANTITY < a {
+        Some(relabel(t, a, b))
+    } else if ANY_QUANTITY < b {
+        Some(relabel(t, b, a))
+    } else {
+        None
     }
-    if b < ANY_DAY {
-        return Fit { ok: false, of: t };
-    }
-    if ANY_QUANTITY < a {
-        let u = relabel(t, VARIABLES, a, b);
-        return Fit { ok: true, of: u };
-    }
-    if ANY_QUANTITY < b {
-        let u = relabel(t, VARIABLES, b, a);
-        return Fit { ok: true, of: u };
-    }
-    Fit { ok: false, of: t }
 }
 
 // Cells a and b become one.
-fn merged(t: [u8; VARIABLES], a: u8, b: u8) -> Fit
+#[tactic(auto, unfolding(crate::specs::Cells::merged))]
+fn merged(t: Cells, a: u8, b: u8) -> Option<Cells>
     ensures { result ≡ merged t a b }
 {
     if a == b {
-        return Fit { ok: true, of: t };
+        Some(t)
+    } else if a < ANY_PRINCIPAL {
+        Some(relabel(t, a, b))
+    } else if b < ANY_PRINCIPAL {
+        Some(relabel(t, b, a))
+    } else {
+        settled(t, a, b)
     }
-    if a < ANY_PRINCIPAL {
-        let u = relabel(t, VARIABLES, a, b);
-        return Fit { ok: true, of: u };
-    }
-    if b < ANY_PRINCIPAL {
-        let u = relabel(t, VARIABLES, b, a);
-        return Fit { ok: true, of: u };
-    }
-    settled(t, a, b)
 }
 
 // A cell becomes one of days or quantities.
-fn counted(t: [u8; VARIABLES], a: u8) -> Fit
+fn counted(t: Cells, a: u8) -> Option<Cells>
     ensures { result ≡ counted t a }
 {
     if a < ANY_PRINCIPAL {
-        let u = relabel(t, VARIABLES, a, a + OPEN_NUMBER);
-        return Fit { ok: true, of: u };
+        Some(relabel(t, a, a + OPEN_NUMBER))
+    } else if a < ANY_DAY {
+        None
+    } else {
+        Some(t)
     }
-    if a < ANY_DAY {
-        return Fit { ok: false, of: t };
-    }
-    Fit { ok: true, of: t }
 }
 
 // Two terms of one kind.
-pub fn alike(t: [u8; VARIABLES], l: u8, r: u8) -> Fit
+#[tactic(auto, unfolding(crate::specs::Cells::alike))]
+pub fn alike(t: Cells, l: u8, r: u8) -> Option<Cells>
     ensures { result ≡ alike t l r }
 {
-    if ANY_QUANTITY < l {
-        return Fit { ok: false, of: t };
+    if ANY_QUANTITY < l || ANY_QUANTITY < r {
+        None
+    } else {
+        merged(t, cell_of(t, l), cell_of(t, r))
     }
-    if ANY_QUANTITY < r {
-        return Fit { ok: false, of: t };
-    }
-    merged(t, cell_of(t, l), cell_of(t, r))
 }
 
 // A day or a quantity.
-pub fn numbered(t: [u8; VARIABLES], l: u8) -> Fit
+#[tactic(auto, unfolding(crate::specs::Cells::numbered))]
+pub fn numbered(t: Cells, l: u8) -> Option<Cells>
     ensures { result ≡ numbered t l }
 {
     if ANY_QUANTITY < l {
-        return Fit { ok: false, of: t };
+        None
+    } else {
+        counted(t, cell_of(t, l))
     }
-    counted(t, cell_of(t, l))
 }

@@ -1,46 +1,41 @@
 -- Two labels, one byte on, as the code compares them; and that labels which are alike fall into one bucket.
-use mathlib.Core.Path.{◌≡◌, refl, sym, ap, ap₂, ◌∙◌}
+use mathlib.Core.Path.{◌≡◌, refl, sym, ap, ◌∙◌}
 use mathlib.Core.Bool.{Bool, true, false}
-use mathlib.Core.List.{List, [], ◌∷◌}
-use Prim.Native.Nat.{ℕ, zero, suc, ◌+◌, ◌*◌, ◌-◌, ◌%◌, ◌≤◌, ◌<◌}
-use native.Mathlib.Numerals.{sub-one}
+use mathlib.Core.List.{List, ◌∷◌}
+use Prim.Native.Nat.{ℕ, suc, ◌+◌, ◌-◌, ◌%◌, ◌<◌, ◌≤◌}
 use native.Mathlib.Omega.{arith}
-use lib.Dec.{eqb}
-use lib.ListN.{length}
-use Rattle.wire.proofs.Reading.{and_yes, and_no}
+use borrow.Author.Tests.{eq-eqb, ne_eqb}
+use lib.ListN.{length, take, drop}
+use Rattle.std.specs.List.{fold}
+use Rattle.std.proofs.lemmas.List.{take_all}
 use Rattle.model.specs.Bytes.{byte_at, bytes_at}
-use Rattle.model.specs.Values.{lower, lowered, alike}
-use Rattle.model.proofs.ByteFacts.{bytes_length}
+use Rattle.model.specs.Values.{lower, alike}
+use Rattle.model.proofs.ByteFacts.{bytes_length, part_is}
 use Rattle.model.proofs.AlikeFacts.{alike_agree, alike_long}
-use Rattle.labels.specs.Hash.{buckets, hash_from, hash_of}
+use Rattle.labels.specs.Hash.{buckets, hash_step, hash_of}
 
-module _ (s t : List ℕ) where
-  pub alike_none : (n p q : ℕ) → n ≡ 0 → true ≡ alike (bytes_at n s p) (bytes_at n t q)
+-- the bytes from the i-th on: that one, and those after it
+bytes_on : (s : List ℕ) (n p i : ℕ) → i < n → bytes_at (n - i) s (p + i) ≡ byte_at s (p + i) ∷ bytes_at (n - (i + 1)) s (p + (i + 1))
+unfolding bytes_at
+bytes_on s n p i h =
+    let d : n - i ≡ suc (n - (i + 1)) = omega arith in
+    let e : p + i + 1 ≡ p + (i + 1) = omega arith in
+    rw (d, e)
+
+-- whether the labels are alike from the i-th byte on
+module _ (s t : List ℕ) (n p q i : ℕ) where
+  pub alike_same : i < n → lower (byte_at s (p + i)) ≡ lower (byte_at t (q + i))
+      → alike (bytes_at (n - i) s (p + i)) (bytes_at (n - i) t (q + i))
+      ≡ alike (bytes_at (n - (i + 1)) s (p + (i + 1))) (bytes_at (n - (i + 1)) t (q + (i + 1)))
+  alike_same h e = rw (bytes_on s n p i h, bytes_on t n q i h, eq-eqb _ _ e)
+
+  pub alike_other : i < n → (lower (byte_at s (p + i)) ≡ lower (byte_at t (q + i)) → ⊥)
+      → alike (bytes_at (n - i) s (p + i)) (bytes_at (n - i) t (q + i)) ≡ false
+  alike_other h e = rw (bytes_on s n p i h, bytes_on t n q i h, ne_eqb _ _ e)
+
+  pub alike_end : n ≤ i → alike (bytes_at (n - i) s (p + i)) (bytes_at (n - i) t (q + i)) ≡ true
   unfolding bytes_at
-  alike_none n p q e = rw e
-
-  module _ (n p q x y : ℕ) (d : x ≡ byte_at s p) (e : y ≡ byte_at t q) (b : Bool) (same : b ≡ eqb (lower x) (lower y)) where
-    here : b ≡ eqb (lower (byte_at s p)) (lower (byte_at t q))
-    here = same ∙ ap₂ (λ (x y : ℕ). eqb (lower x) (lower y)) d e
-
-    -- the first bytes agree
-    pub alike_on : (n ≡ 0 → ⊥) → b ≡ true → (z : Bool) → z ≡ alike (bytes_at (n - 1) s (p + 1)) (bytes_at (n - 1) t (q + 1)) → z ≡ alike (bytes_at n s p)
-        (bytes_at n t q)
-    unfolding bytes_at
-    alike_on h i z k = go n h k
-      where
-        go : (n : ℕ) → (n ≡ 0 → ⊥) → z ≡ alike (bytes_at (n - 1) s (p + 1)) (bytes_at (n - 1) t (q + 1)) → z ≡ alike (bytes_at n s p) (bytes_at n t q)
-        go zero h k = absurd (h refl)
-        go (suc n) h k = and_yes _ _ z (sym here ∙ i) (rw sub-one at k)
-
-    -- they differ
-    pub alike_off : (n ≡ 0 → ⊥) → b ≡ false → false ≡ alike (bytes_at n s p) (bytes_at n t q)
-    unfolding bytes_at
-    alike_off h i = go n h
-      where
-        go : (n : ℕ) → (n ≡ 0 → ⊥) → false ≡ alike (bytes_at n s p) (bytes_at n t q)
-        go zero h = absurd (h refl)
-        go (suc n) h = and_no _ _ false (sym here ∙ i) refl
+  alike_end h = let d : n - i ≡ 0 = omega arith in rw d
 
 -- labels of different lengths are not alike
 pub alike_lengths : (l r : List ℕ) → (length l ≡ length r → ⊥) → false ≡ alike l r
@@ -60,32 +55,17 @@ module _ (s t : List ℕ) (m n p q : ℕ) where
 
 -- ---- buckets
 
-pub hash_begin : (s : List ℕ) (p n : ℕ) → hash_from 0 (lowered (bytes_at (n - 0) s (p + 0))) ≡ hash_of (bytes_at n s p)
-unfolding hash_of
-hash_begin s p n = let d : n - 0 ≡ n = omega arith in let e : p + 0 ≡ p = omega arith in rw (d, e)
-
-pub hash_on : (s : List ℕ) (p n i h b c : ℕ) → i < n → b ≡ byte_at s (p + i) → c ≡ lower b
-    → hash_from h (lowered (bytes_at (n - i) s (p + i))) ≡ hash_from ((33 * h + c) % 65536) (lowered (bytes_at (n - (i + 1)) s (p + (i + 1))))
-unfolding hash_from bytes_at
-hash_on s p n i h b c l e f =
-    let d : n - i ≡ suc (n - (i + 1)) = omega arith in
-    let q : p + i + 1 ≡ p + (i + 1) = omega arith in
-    rw (d, f, e, q)
-
-pub hash_end : (s : List ℕ) (p n i h : ℕ) → n ≤ i → hash_from h (lowered (bytes_at (n - i) s (p + i))) ≡ h % buckets
-unfolding hash_from bytes_at
-hash_end s p n i h l = let d : n - i ≡ 0 = omega arith in rw d
-
-from_small : (h : ℕ) (l : List ℕ) → hash_from h l < buckets
-unfolding hash_from
-from_small h [] = omega arith
-from_small h (b ∷ l) = from_small ((33 * h + b) % 65536) l
+-- a part that was gone through to its end
+pub part_taken : (s : List ℕ) (n p i : ℕ) → p + n ≤ length s → length (take (p + n - p) (drop p s)) ≤ i → take i (take (p + n - p) (drop p s)) ≡ bytes_at n s p
+part_taken s n p i h l =
+    let d : p + n - p ≡ n = omega arith in
+    take_all i _ l ∙ rw d (part_is n s p h)
 
 pub hash_small : (l : List ℕ) → hash_of l < buckets
 unfolding hash_of
-hash_small l = from_small 0 (lowered l)
+hash_small l = omega arith
 
 -- labels that are alike have the same small letters
 pub alike_hash : (l r : List ℕ) → alike l r ≡ true → hash_of l ≡ hash_of r
 unfolding hash_of
-alike_hash l r e = ap (hash_from 0) (alike_agree l r e)
+alike_hash l r e = ap (λ (x : List ℕ). fold hash_step 0 x % buckets) (alike_agree l r e)

@@ -8,11 +8,17 @@ use lib.Dec.{eqb, leb, ltb}
 use lib.ListN.{length}
 use borrow.Author.Tests.{leb-true, eqb-true, eq-eqb, ne_eqb}
 use Rattle.wire.proofs.Reading.{both_first, both_second, choose_false, and_yes, and_no}
-use Rattle.model.specs.Bytes.{byte_at, u32_at, bytes_at, choose}
+use Rattle.model.specs.Bytes.{byte_at, u32_at, bytes_at, choose, both}
 use Rattle.model.specs.Values.{alike}
 use Rattle.model.specs.Readings.{item_end, has_label, constant_read_at, verb_at}
 use Rattle.model.specs.Forms.{label_form, item_there, number_form, value_form, constant_form, signature_form, verb_form}
 use Rattle.model.specs.Policies.{alike_constants, alike_verbs}
+
+in_turn : (a b c : Bool) → both a (both b c) ≡ (a && (b && c))
+unfolding both choose
+in_turn true true c = refl
+in_turn true false c = refl
+in_turn false b c = refl
 
 module _ (s : List ℕ) (at : ℕ) where
   pub there_within : item_there s at ≡ true → item_end s at ≤ length s
@@ -45,6 +51,32 @@ module _ (s : List ℕ) (at : ℕ) where
       let l = both_second (leb (1 + byte_at s (at + 1)) (byte_at s at)) _ (both_second _ _ g) in
       let n = leb-true 1 (byte_at s at - 1 - byte_at s (at + 1)) (both_first _ _ (both_second _ _ l)) in
       omega arith
+
+  -- the same by the bytes, as the code reads them
+  pub there_inside : item_there s at ≡ true → at + 1 + byte_at s at ≤ length s
+  unfolding item_end
+  there_inside h = there_within h
+
+  pub constant_inside : constant_form s at ≡ true → at + 1 + byte_at s at ≤ length s
+  unfolding item_end
+  constant_inside h = constant_within h
+
+  pub verb_inside : verb_form s at ≡ true → at + 1 + byte_at s at ≤ length s
+  unfolding item_end
+  verb_inside h = verb_within h
+
+  -- ---- the forms, test by test
+
+  pub constant_tests : constant_form s at ≡ (item_there s at && (leb 2 (byte_at s at) && value_form s at))
+  unfolding constant_form
+  constant_tests = in_turn (item_there s at) (leb 2 (byte_at s at)) (value_form s at)
+
+  pub verb_tests : verb_form s at ≡ (item_there s at && (leb 1 (byte_at s at) && signature_form s at))
+  unfolding verb_form
+  verb_tests = in_turn (item_there s at) (leb 1 (byte_at s at)) (signature_form s at)
+
+-- what the code is proved by
+pub ruleset form_tests = (there_inside, there_within, constant_tests, verb_tests)
 
 -- ---- "alike in kind and value"
 

@@ -1,6 +1,6 @@
 -- The readers of constants and verbs read what stands at an offset.
-use mathlib.Core.Path.{◌≡◌, refl, ap}
-use mathlib.Core.Bool.{Bool, true, false}
+use mathlib.Core.Path.{◌≡◌}
+use mathlib.Core.Bool.{Bool, true}
 use mathlib.Core.List.{List}
 use Prim.Native.Nat.{ℕ}
 use Rattle.model.specs.Bytes.{choose, got, refused}
@@ -9,10 +9,8 @@ use Rattle.model.specs.Readings.{item_end, constant_read_at, verb_at}
 use Rattle.model.specs.Forms.{constant_form, verb_form}
 use Rattle.model.specs.Policies.{constant_item, verb_item}
 use Rattle.model.proofs.ReadFacts.{choose_yes, choose_no}
-use Rattle.slices.specs.declared.Step.TheVariants.{Next, Refused}
-use Rattle.slices.specs.Steps.{step}
 use Rattle.names.proofs.FormFacts.{constant_within, verb_within}
-use Rattle.slices.proofs.ListFacts.{Reads, T_true, step_yes, step_no}
+use Rattle.slices.proofs.ListFacts.{Reads, T_true}
 
 -- an item that is read: of right form, not alike, what stands at its offset
 module _ {A : Type 0} (form alike : Bool) (v x : A) (at f e : ℕ) where
@@ -48,18 +46,3 @@ module _ (s : List ℕ) where
   pub verb_right : (vs : List Verb) (at : ℕ) (x : Verb) (e : ℕ) → verb_item s vs at ≡ got x e → verb_form s at ≡ true
   unfolding verb_item
   verb_right vs at x e h = (item_got _ _ _ x at _ e h).0
-
--- ---- what the code answers for an item
-
-module _ {A : Type 0} (form alike : Bool) (v : A) (at f : ℕ) where
-  pub item_form : form ≡ false → Refused 3 at ≡ step (choose form (choose alike (refused 4 at) (got v f)) (refused 3 at))
-  unfolding step
-  item_form h = step_no form _ _ (Refused 3 at) h refl
-
-  pub item_alike : form ≡ true → alike ≡ true → Refused 4 at ≡ step (choose form (choose alike (refused 4 at) (got v f)) (refused 3 at))
-  unfolding step
-  item_alike h k = step_yes form _ _ (Refused 4 at) h (step_yes alike _ _ (Refused 4 at) k refl)
-
-  pub item_new : form ≡ true → alike ≡ false → (e : ℕ) → e ≡ f → Next e ≡ step (choose form (choose alike (refused 4 at) (got v f)) (refused 3 at))
-  unfolding step
-  item_new h k e d = step_yes form _ _ (Next e) h (step_no alike _ _ (Next e) k (ap Next d))

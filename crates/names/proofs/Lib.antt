@@ -1,3 +1,5 @@
 pub mod FormFacts
 pub mod ItemFacts
+pub mod Buckets
 pub mod Seeking
+pub mod NameFacts

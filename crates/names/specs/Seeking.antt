@@ -2,7 +2,7 @@
 use Rattle.std.specs.Prelude.{List, [], ◌∷◌, map, ◌≡◌, ℕ, zero, suc, ◌%◌, ◌≤◌, ◌<◌, length, get_or}
 use Rattle.model.specs.Syntax.{Constant, Verb}
 use Rattle.model.specs.Bytes.{choose}
-use Rattle.model.specs.Readings.{item_end, ends_by, has_label, constant_read_at, verb_at}
+use Rattle.model.specs.Readings.{item_end, ends_by, has_label}
 use Rattle.labels.specs.Hash.{buckets, hash_of}
 use Rattle.chains.specs.Chains.{Chained}
 
@@ -13,22 +13,16 @@ constant_bucket c = choose (has_label c.kind) (hash_of c.label) (c.number % buck
 abbrev pub verb_bucket : Verb → ℕ
 verb_bucket v = hash_of v.label
 
--- k items from p on, the newest first
-unfoldable pub newest : {A : Type 0} → (ℕ → A) → (ℕ → ℕ) → ℕ → ℕ → List A
-newest of next zero p = []
-newest of next (suc k) p = of (ends_by next k p) ∷ newest of next k p
+-- where k items from p on begin, the newest first
+unfoldable pub newest : (ℕ → ℕ) → ℕ → ℕ → List ℕ
+newest next zero p = []
+newest next (suc k) p = ends_by next k p ∷ newest next k p
 
 -- `ats` has where k items from p on begin, and `links` their chains
-pub record Listed {A : Type 0} (of : ℕ → A) (next : ℕ → ℕ) (bucket : A → ℕ) (p k : ℕ) (ats links : List ℕ) : Type 0 where
+pub record Listed (next bucket : ℕ → ℕ) (p k : ℕ) (ats links : List ℕ) : Type 0 where
   pub there : k ≤ length ats
   pub at : (j : ℕ) → j < k → get_or ats j 0 ≡ ends_by next j p
-  pub chained : Chained links buckets (map bucket (newest of next k p))
-
-abbrev pub ListedConstants : List ℕ → ℕ → ℕ → List ℕ → List ℕ → Type 0
-ListedConstants s = Listed (constant_read_at s) (item_end s) constant_bucket
-
-abbrev pub ListedVerbs : List ℕ → ℕ → ℕ → List ℕ → List ℕ → Type 0
-ListedVerbs s = Listed (verb_at s) (item_end s) verb_bucket
+  pub chained : Chained links buckets (map bucket (newest next k p))
 
 -- one of the chains, from entry i on; each of its items ends by q
 pub record Walkable (s ats links : List ℕ) (q i : ℕ) : Type 0 where

@@ -2,4 +2,5 @@
 #![tactic(auto)]
 
 pub mod constants;
+mod named;
 pub mod verbs;

@@ -8,7 +8,8 @@ use Prim.Native.Nat.{ℕ, zero, suc, ◌+◌}
 use native.Mathlib.Omega.{arith}
 use lib.ListN.{length}
 use lib.Dec.{ltb, leb}
-use borrow.Author.Tests.{eq-eqb, ne_eqb, leb-true}
+use Rattle.std.specs.Prelude.{◌||◌, not, if◌then◌else◌, is_some, option_and_then, Option, Some, None, Result, Ok, Err}
+use borrow.Author.Tests.{leb-true}
 use Rattle.model.specs.Lists.{each}
 use Rattle.model.specs.Syntax.{Constant, Verb}
 use Rattle.model.specs.Kinds.{Demands, no_demands, joined, places, says_demands, test_demands, fitting}
@@ -17,10 +18,9 @@ use Rattle.model.specs.Readings.{expr_at, fact_at, constraint_at}
 use Rattle.model.specs.Forms as forms
 use Rattle.model.specs.Nodes.{parts_form, variable_form, check_parts, fitted, check_says, check_test, check_by, check_node}
 use Rattle.wire.proofs.Reading.{choose_true, choose_false, both_first, both_second}
-use Rattle.kinds.specs.Cells.{Ask, good, feed, fit_then, nothing}
-use Rattle.kinds.specs.Asks.{kind_term, ask_place, ask_test, asks_for, Regular}
+use Rattle.kinds.specs.Cells.{Ask, feed, nothing}
+use Rattle.kinds.specs.Asks.{ask_place, ask_test, asks_for, Regular}
 use Rattle.kinds.specs.Choices.{MeetsAll}
-use Rattle.kinds.specs.declared.Fit.{Fit}
 use Rattle.kinds.proofs.Laws.{feed_append}
 use Rattle.kinds.proofs.Meaning.{meets_append}
 use Rattle.kinds.proofs.Model.{fits_asks}
@@ -28,8 +28,11 @@ use Rattle.phrases.specs.Tables.{Tables}
 use Rattle.phrases.specs.Phrases.{test_asks, code_form}
 use Rattle.phrases.proofs.Model.{form_is, place_is, fact_asks_law, test_asks_law, places_regular}
 use Rattle.nodes.specs.Tree.{shape_at}
-use Rattle.nodes.specs.Nodes.{next, stop, got_then, reads_by, own_form, fits_to, test_in, says_asks, says_to, says_in, read_of, read_in}
-use Rattle.nodes.specs.declared.Got.{Got}
+use Rattle.slices.specs.Steps.{number_of}
+use Rattle.slices.specs.declared.Refusal.{Refusal}
+use Rattle.slices.specs.declared.Reason.TheVariants as reasons
+use Rattle.nodes.specs.Nodes.{stop, read_then, reads_by, own_form, fits_to, test_in, says_asks, says_to, says_in, read_of, read_in}
+use Rattle.nodes.specs.declared.Reached.{Reached}
 use Rattle.nodes.specs.declared.tree.Shape.{Shape}
 use Rattle.nodes.specs.declared.tree.Shape.TheVariants.{Says, Test, All, Any, Not, Exists, Nothing}
 use Rattle.nodes.proofs.TreeLaws.{by_bool, named, sort_is}
@@ -39,9 +42,6 @@ use Rattle.nodes.proofs.TreeLaws.{by_bool, named, sort_is}
 each_append : {A B : Type 0} (f : A → List B) (xs ys : List A) → each (xs ++ ys) f ≡ each xs f ++ each ys f
 each_append f [] ys = refl
 each_append {B = B} f (x ∷ xs) ys = ap (λ (l : List B). f x ++ l) (each_append f xs ys) ∙ sym (append_assoc (f x) (each xs f) (each ys f))
-
-good_is : (f : Fit) → f.ok ≡ true → f ≡ good f.of
-good_is f e = rw (← e)
 
 module _ (cs : List Constant) where
   meets_joined : (κ : List ℕ) (D E : Demands) → MeetsAll κ (asks_for cs (joined D E)) ↔ (MeetsAll κ (asks_for cs D) × MeetsAll κ (asks_for cs E))
@@ -78,35 +78,42 @@ module _ (cs : List Constant) where
   -- the cells t are what the items so far, which ask D, have left
   pub record State (t : List ℕ) (D : Demands) : Type 0 where
     pub asks : List Ask
-    pub fed : feed asks nothing ≡ good t
+    pub fed : feed asks nothing ≡ Some t
     pub alike : (κ : List ℕ) → MeetsAll κ asks ↔ MeetsAll κ (asks_for cs D)
     pub regular : Regular cs D
 
   pub state_fits : (t : List ℕ) (D : Demands) → State t D → fitting cs D ≡ true
-  state_fits t D S = sym (fits_asks cs D S.regular S.asks S.alike) ∙ ap (λ (f : Fit). f.ok) S.fed
+  state_fits t D S = sym (fits_asks cs D S.regular S.asks S.alike) ∙ ap is_some S.fed
 
   -- a reading of the code agrees with one of the model
-  abbrev pub Reads : Got → Reading Demands → Type 0
-  Reads g (got D e) = (g.no ≡ 0) × (g.at ≡ e) × State g.of D
-  Reads g (refused n p) = (g.no ≡ n) × (g.at ≡ p) × (n ≡ 0 → ⊥)
+  abbrev pub Reads : Result Reached Refusal → Reading Demands → Type 0
+  Reads (Ok r) (got D e) = (r.at ≡ e) × State r.cells D
+  Reads (Err x) (refused n p) = (number_of x.reason ≡ n) × (x.place ≡ p)
+  Reads (Ok r) (refused n p) = ⊥
+  Reads (Err x) (got D e) = ⊥
 
-  three : (p : ℕ) (t : List ℕ) → Reads (stop 3 p t) (refused 3 p)
-  three p t = (refl, refl, λ e. omega arith)
+  -- the cells where the model goes on
+  pub reached_state : (g : Result Reached Refusal) (D : Demands) (e : ℕ) → Reads g (got D e) → (t : List ℕ) × State t D
+  reached_state (Ok r) D e h = (r.cells, h.1)
+  reached_state (Err x) D e h = absurd h
 
-  five : (p : ℕ) (t : List ℕ) → Reads (stop 5 p t) (refused 5 p)
-  five p t = (refl, refl, λ e. omega arith)
-
-  reads_choose : (b : Bool) (x y : Got) (u v : Reading Demands) → Reads x u → Reads y v → Reads (choose b x y) (choose b u v)
+  -- what ends a reading, by a first test or by a second
+  reads_unless : (a b : Bool) (x y : Result Reached Refusal) (u v : Reading Demands) → Reads x u → Reads (if not b then x else y) v
+      → Reads (if a || not b then x else y) (choose a u v)
   unfolding choose
-  reads_choose true x y u v p q = p
-  reads_choose false x y u v p q = q
+  reads_unless true b x y u v p q = p
+  reads_unless false b x y u v p q = q
+
+  reads_either : (b : Bool) (x y : Result Reached Refusal) (u v : Reading Demands) → Reads x u → Reads y v → Reads (if not b then x else y) (choose b v u)
+  unfolding choose
+  reads_either true x y u v p q = q
+  reads_either false x y u v p q = p
 
   -- an item that asks E, after those that ask D
   module _ (t : List ℕ) (D E : Demands) (qs : List Ask) (S : State t D) (same-asks : (κ : List ℕ) → MeetsAll κ qs ↔ MeetsAll κ (asks_for cs E))
       (R : Regular cs E) where
     fed_on : feed (S.asks ++ qs) nothing ≡ feed qs t
-    unfolding fit_then
-    fed_on = feed_append S.asks qs nothing ∙ ap (λ (f : Fit). fit_then f (feed qs)) S.fed ∙ choose_true (feed qs t) (good t) refl
+    fed_on = feed_append S.asks qs nothing ∙ ap (option_and_then (feed qs)) S.fed
 
     both_met : (κ : List ℕ) → MeetsAll κ (S.asks ++ qs) ↔ MeetsAll κ (asks_for cs (joined D E))
     both_met κ =
@@ -116,40 +123,41 @@ module _ (cs : List Constant) where
           λ h. let w = b.0 h in a.1 ((S.alike κ).1 w.0, (same-asks κ).1 w.1),
         )
 
-    fits_on : (feed qs t).ok ≡ fitting cs (joined D E)
-    fits_on = ap (λ (f : Fit). f.ok) (sym fed_on) ∙ fits_asks cs (joined D E) (regular_joined D E S.regular R) (S.asks ++ qs) both_met
+    fits_on : is_some (feed qs t) ≡ fitting cs (joined D E)
+    fits_on = ap is_some (sym fed_on) ∙ fits_asks cs (joined D E) (regular_joined D E S.regular R) (S.asks ++ qs) both_met
 
     reads_item : (vs : List Verb) (s : List ℕ) (at e : ℕ) → Reads (fits_to (feed qs t) at e) (fitted cs vs s (joined D E) at e)
-    unfolding fits_to fitted
-    reads_item vs s at e =
-        by_bool (feed qs t).ok
-        (λ o.
-        rw (choose_true (next e (feed qs t).of) (stop 5 at (feed qs t).of) o, choose_true (got (joined D E) e) (refused 5 at) (sym fits_on ∙ o))
-        (refl, refl, record { asks = S.asks ++ qs; fed = fed_on ∙ good_is (feed qs t) o; alike = both_met; regular = regular_joined D E S.regular R }))
-        (λ o.
-        rw (choose_false (next e (feed qs t).of) (stop 5 at (feed qs t).of) o, choose_false (got (joined D E) e) (refused 5 at) (sym fits_on ∙ o))
-        (five at (feed qs t).of))
+    unfolding fitted
+    reads_item vs s at e = go (feed qs t) refl
+      where
+        go : (o : Option (List ℕ)) → feed qs t ≡ o → Reads (fits_to o at e) (choose (fitting cs (joined D E)) (got (joined D E) e) (refused 5 at))
+        go (Some u) f =
+            rw (choose_true (got (joined D E) e) (refused 5 at) (sym fits_on ∙ ap is_some f))
+            (refl, record { asks = S.asks ++ qs; fed = fed_on ∙ f; alike = both_met; regular = regular_joined D E S.regular R })
+        go None f = rw (choose_false (got (joined D E) e) (refused 5 at) (sym fits_on ∙ ap is_some f)) (refl, refl)
 
-  reads_then : (g : Got) (x : Reading Demands) (f : ℕ → List ℕ → Got) (h : Demands → ℕ → Reading Demands) → Reads g x
-      → ((t : List ℕ) (D : Demands) (p : ℕ) → State t D → Reads (f p t) (h D p)) → Reads (got_then g f) (and_then x h)
-  unfolding got_then and_then
-  reads_then g (got D e) f h r k = rw (choose_true (f g.at g.of) g (eq-eqb g.no 0 r.0), r.1) (k g.of D e r.2)
-  reads_then g (refused n p) f h r k = rw (choose_false (f g.at g.of) g (ne_eqb g.no 0 (λ z. r.2 (sym r.0 ∙ z)))) r
+  reads_then : (g : Result Reached Refusal) (x : Reading Demands) (f : ℕ → List ℕ → Result Reached Refusal) (h : Demands → ℕ → Reading Demands) → Reads g x
+      → ((t : List ℕ) (D : Demands) (p : ℕ) → State t D → Reads (f p t) (h D p)) → Reads (read_then g f) (and_then x h)
+  unfolding and_then
+  reads_then (Ok g) (got D e) f h r k = rw r.0 (k g.cells D e r.1)
+  reads_then (Err g) (refused n p) f h r k = r
+  reads_then (Ok g) (refused n p) f h r k = absurd r
+  reads_then (Err g) (got D e) f h r k = absurd r
 
-  abbrev Agree : (ℕ → List ℕ → Got) → (Demands → ℕ → Reading Demands) → Type 0
+  abbrev Agree : (ℕ → List ℕ → Result Reached Refusal) → (Demands → ℕ → Reading Demands) → Type 0
   Agree f h = (at : ℕ) (t : List ℕ) (D : Demands) → State t D → Reads (f at t) (h D at)
 
-  reads_parts : (f : ℕ → List ℕ → Got) (h : Demands → ℕ → Reading Demands) → Agree f h → (n at : ℕ) (t : List ℕ) (D : Demands) → State t D
+  reads_parts : (f : ℕ → List ℕ → Result Reached Refusal) (h : Demands → ℕ → Reading Demands) → Agree f h → (n at : ℕ) (t : List ℕ) (D : Demands) → State t D
       → Reads (reads_by f n at t) (check_parts h n D at)
   unfolding reads_by check_parts
-  reads_parts f h a zero at t D S = (refl, refl, S)
+  reads_parts f h a zero at t D S = (refl, S)
   reads_parts f h a (suc n) at t D S = reads_then (f at t) (h D at) (reads_by f n) (check_parts h n) (a at t D S) (λ u E p T. reads_parts f h a n p u E T)
 
 module _ {cs : List Constant} {vs : List Verb} {ks sg : List ℕ} (X : Tables cs vs ks sg) (s : List ℕ) where
   -- ---- says nodes and constraints
 
   says_met : (at : ℕ) (κ : List ℕ) → MeetsAll κ (says_asks ks sg s at) ↔ MeetsAll κ (asks_for cs (says_demands vs (expr_at s (at + 1)) (fact_at vs s (at + 3))))
-  unfolding says_asks kind_term choose
+  unfolding says_asks
   says_met at κ =
       let a = meets_append κ (ask_place cs (1, expr_at s (at + 1)) ∷ map (ask_place cs) (places vs (fact_at vs s (at + 3)))) [] in
       rw (place_is X s (at + 1), fact_asks_law X s (at + 3)) (λ h. a.1 (h, tt), λ h. (a.0 h).0)
@@ -176,21 +184,22 @@ module _ {cs : List Constant} {vs : List Verb} {ks sg : List ℕ} (X : Tables cs
   }
 
   reads_says : (φ : forms.Form) (at : ℕ) (t : List ℕ) (D : Demands) → State cs t D → Reads cs (says_to ks sg s (code_form φ) at t) (check_says cs vs s φ D at)
-  unfolding says_to check_says code_form
+  unfolding check_says
   reads_says (forms.ends e) at t D S = reads_item cs t D _ (says_asks ks sg s at) S (says_met at) (says_regular at) vs s at e
-  reads_says forms.broken at t D S = three cs at t
-  reads_says forms.no_verb at t D S = five cs at t
+  reads_says forms.broken at t D S = (refl, refl)
+  reads_says forms.no_verb at t D S = (refl, refl)
 
   reads_test : (at : ℕ) (t : List ℕ) (D : Demands) → State cs t D → Reads cs (test_in ks s at t) (check_test cs vs s D at)
   unfolding test_in check_test
   reads_test at t D S =
-      reads_choose cs (ltb (length s) (at + 6)) _ _ _ _ (three cs at t)
+      reads_unless cs (ltb (length s) (at + 6)) (forms.operator_form s (at + 1)) (stop reasons.Form at) fits (refused 3 at) _ (refl, refl)
       (by_bool (forms.operator_form s (at + 1))
-      (λ o. rw (choose_true fits (stop 3 at t) o, choose_true asked (refused 3 at) o)
+      (λ o.
+      rw (choose_true asked (refused 3 at) o, o)
       (reads_item cs t D _ (test_asks ks s (at + 1)) S (test_met (at + 1)) (test_regular (at + 1) o) vs s at (at + 6)))
-      (λ o. rw (choose_false fits (stop 3 at t) o, choose_false asked (refused 3 at) o) (three cs at t)))
+      (λ o. rw (choose_false asked (refused 3 at) o, o) (refl, refl)))
     where
-      fits : Got
+      fits : Result Reached Refusal
       fits = fits_to (feed (test_asks ks s (at + 1)) t) at (at + 6)
 
       asked : Reading Demands
@@ -198,24 +207,25 @@ module _ {cs : List Constant} {vs : List Verb} {ks sg : List ℕ} (X : Tables cs
 
   -- ---- nodes
 
-  reads_of : (k : Shape) (f : ℕ → List ℕ → Got) (h : Demands → ℕ → Reading Demands) → Agree cs f h → (at : ℕ) (t : List ℕ) (D : Demands) → State cs t D
-      → Reads cs (choose (own_form s k at) (read_of ks sg s k f at t) (stop 3 at t)) (check_by cs vs s (named k) h D at)
-  unfolding own_form read_of check_by says_in choose
+  reads_of : (k : Shape) (f : ℕ → List ℕ → Result Reached Refusal) (h : Demands → ℕ → Reading Demands) → Agree cs f h
+      → (at : ℕ) (t : List ℕ) (D : Demands) → State cs t D
+      → Reads cs (if not (own_form s k at) then stop reasons.Form at else read_of ks sg s k f at t) (check_by cs vs s (named k) h D at)
+  unfolding own_form read_of check_by says_in
   reads_of Says f h a at t D S = rw (form_is X s (length s) (at + 3)) (reads_says (forms.fact_form vs s (length s) (at + 3)) at t D S)
   reads_of Test f h a at t D S = reads_test at t D S
-  reads_of All f h a at t D S = reads_choose cs (parts_form s (at + 1)) _ _ _ _ (reads_parts cs f h a (byte_at s (at + 1)) (at + 2) t D S) (three cs at t)
-  reads_of Any f h a at t D S = reads_choose cs (parts_form s (at + 1)) _ _ _ _ (reads_parts cs f h a (byte_at s (at + 1)) (at + 2) t D S) (three cs at t)
+  reads_of All f h a at t D S = reads_either cs (parts_form s (at + 1)) _ _ _ _ (refl, refl) (reads_parts cs f h a (byte_at s (at + 1)) (at + 2) t D S)
+  reads_of Any f h a at t D S = reads_either cs (parts_form s (at + 1)) _ _ _ _ (refl, refl) (reads_parts cs f h a (byte_at s (at + 1)) (at + 2) t D S)
   reads_of Not f h a at t D S = a (at + 1) t D S
-  reads_of Exists f h a at t D S = reads_choose cs (variable_form s (at + 1)) _ _ _ _ (a (at + 2) t D S) (three cs at t)
-  reads_of Nothing f h a at t D S = three cs at t
+  reads_of Exists f h a at t D S = reads_either cs (variable_form s (at + 1)) _ _ _ _ (refl, refl) (a (at + 2) t D S)
+  reads_of Nothing f h a at t D S = (refl, refl)
 
   -- THE LAW
   pub reads_node : (d at : ℕ) (t : List ℕ) (D : Demands) → State cs t D → Reads cs (read_in ks sg s d at t) (check_node cs vs s d D at)
   unfolding read_in check_node
-  reads_node zero at t D S = three cs at t
+  reads_node zero at t D S = (refl, refl)
   reads_node (suc d) at t D S =
       rw (sort_is (byte_at s at))
-      (reads_choose cs (leb (length s) at) _ _ _ _ (three cs at t)
+      (reads_unless cs (leb (length s) at) (own_form s (shape_at s at) at) _ _ _ _ (refl, refl)
       (reads_of (shape_at s at) (read_in ks sg s d) (check_node cs vs s d) (λ p u E T. reads_node d p u E T) at t D S))
 
   pub state_none : State cs nothing no_demands

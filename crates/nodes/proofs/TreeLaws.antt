@@ -4,17 +4,17 @@ use mathlib.Core.Bool.{Bool, true, false}
 use mathlib.Core.List.{List}
 use Prim.Native.Nat.{ℕ, zero, suc, ◌+◌, ◌≤◌}
 use lib.ListN.{length}
-use lib.Dec.{eqb, leb}
+use Rattle.std.specs.Prelude.{◌==◌, nat_le, if◌then◌else◌}
 use borrow.Author.Tests.{leb-true}
 use Rattle.model.specs.Syntax.{Constant, Verb, Node, says, all_of, any_of, non, exists, more}
 use Rattle.model.specs.Bytes.{byte_at, choose}
 use Rattle.model.specs.Readings.{expr_at, Sort, says_sort, test_sort, all_sort, any_sort, not_sort, exists_sort, no_sort, sort_of, ends_by, nodes_by, end_by}
 use Rattle.model.specs.Readings.{node_end}
 use Rattle.model.specs.Readings.{node_by, node_at}
-use Rattle.wire.proofs.Reading.{choose_true, choose_false, past_end}
+use Rattle.wire.proofs.Reading.{past_end}
 use Rattle.phrases.specs.Tables.{Tables}
 use Rattle.phrases.proofs.Model.{fact_is, next_is}
-use Rattle.nodes.specs.Tree.{later_shape, shape_of, shape_at, end_of, end_in, tree_of, tree_in}
+use Rattle.nodes.specs.Tree.{shape_of, shape_at, end_of, end_in, tree_of, tree_in}
 use Rattle.nodes.specs.declared.tree.Shape.{Shape}
 use Rattle.nodes.specs.declared.tree.Shape.TheVariants.{Says, Test, All, Any, Not, Exists, Nothing}
 
@@ -35,7 +35,7 @@ named Nothing = no_sort
 
 six : (a b c d e f : Bool)
     → choose a says_sort (choose b test_sort (choose c all_sort (choose d any_sort (choose e not_sort (choose f exists_sort no_sort)))))
-    ≡ named (choose a Says (choose b Test (choose c All (choose d Any (choose e Not (choose f Exists Nothing))))))
+    ≡ named (if a then Says else (if b then Test else (if c then All else (if d then Any else (if e then Not else (if f then Exists else Nothing))))))
 unfolding choose
 six true b c d e f = refl
 six false true c d e f = refl
@@ -46,8 +46,8 @@ six false false false false false true = refl
 six false false false false false false = refl
 
 pub sort_is : (b : ℕ) → sort_of b ≡ named (shape_of b)
-unfolding sort_of shape_of later_shape
-sort_is b = six (eqb b 1) (eqb b 2) (eqb b 3) (eqb b 4) (eqb b 5) (eqb b 6)
+unfolding sort_of shape_of
+sort_is b = six (b == 1) (b == 2) (b == 3) (b == 4) (b == 5) (b == 6)
 
 -- past the end there is no node
 past_sort : (s : List ℕ) (at : ℕ) → length s ≤ at → sort_of (byte_at s at) ≡ no_sort
@@ -82,10 +82,10 @@ module _ {cs : List Constant} {vs : List Verb} {ks sg : List ℕ} (X : Tables cs
   unfolding end_in node_end end_by
   end_is zero at = refl
   end_is (suc d) at =
-      by_bool (leb (length s) at)
-      (λ o. choose_true _ _ o ∙ sym (ap (λ (k : Sort). end_by vs s k (node_end vs s d) at) (past_sort s at (leb-true (length s) at o))))
-      (λ o. choose_false _ _ o ∙ end_of_law (shape_at s at) (end_in sg s d) (node_end vs s d) (λ p. end_is d p) at
-      ∙ ap (λ (k : Sort). end_by vs s k (node_end vs s d) at) (sym (sort_is (byte_at s at))))
+      by_bool (nat_le (length s) at)
+      (λ o. rw o (sym (ap (λ (k : Sort). end_by vs s k (node_end vs s d) at) (past_sort s at (leb-true (length s) at o)))))
+      (λ o. rw o (end_of_law (shape_at s at) (end_in sg s d) (node_end vs s d) (λ p. end_is d p) at
+      ∙ ap (λ (k : Sort). end_by vs s k (node_end vs s d) at) (sym (sort_is (byte_at s at)))))
 
   tree_of_law : (k : Shape) (f q : ℕ → Node) (g h : ℕ → ℕ) → ((at : ℕ) → f at ≡ q at) → ((at : ℕ) → g at ≡ h at) → (at : ℕ)
       → tree_of sg s k f g at ≡ node_by vs s (named k) q h at
@@ -102,9 +102,9 @@ module _ {cs : List Constant} {vs : List Verb} {ks sg : List ℕ} (X : Tables cs
   unfolding tree_in node_at node_by
   tree_is zero at = refl
   tree_is (suc d) at =
-      by_bool (leb (length s) at)
-      (λ o. choose_true _ _ o ∙ sym (ap (λ (k : Sort). node_by vs s k (node_at vs s d) (node_end vs s d) at) (past_sort s at (leb-true (length s) at o))))
+      by_bool (nat_le (length s) at)
+      (λ o. rw o (sym (ap (λ (k : Sort). node_by vs s k (node_at vs s d) (node_end vs s d) at) (past_sort s at (leb-true (length s) at o)))))
       (λ o.
-      choose_false _ _ o ∙ tree_of_law (shape_at s at) (tree_in sg s d) (node_at vs s d) (end_in sg s d) (node_end vs s d) (λ p. tree_is d p)
+      rw o (tree_of_law (shape_at s at) (tree_in sg s d) (node_at vs s d) (end_in sg s d) (node_end vs s d) (λ p. tree_is d p)
       (λ p. end_is d p) at
-      ∙ ap (λ (k : Sort). node_by vs s k (node_at vs s d) (node_end vs s d) at) (sym (sort_is (byte_at s at))))
+      ∙ ap (λ (k : Sort). node_by vs s k (node_at vs s d) (node_end vs s d) at) (sym (sort_is (byte_at s at)))))

@@ -1,19 +1,17 @@
 -- The tree of nodes in a request's bytes, and where it ends, as the code finds them: by the table of verbs, and nothing past the end of the bytes.
-use Rattle.std.specs.Prelude.{ℕ, zero, suc, ◌+◌, List, length, eqb, leb}
+use Rattle.std.specs.Prelude.{ℕ, zero, suc, ◌+◌, List, length, ◌==◌, nat_le, if◌then◌else◌}
 use Rattle.model.specs.Syntax.{Node, says, test, all_of, any_of, non, exists, end}
-use Rattle.model.specs.Bytes.{byte_at, choose}
+use Rattle.model.specs.Bytes.{byte_at}
 use Rattle.model.specs.Readings.{expr_at, constraint_at, ends_by, nodes_by}
 use Rattle.phrases.specs.Phrases.{fact_by, fact_next}
 use Rattle.nodes.specs.declared.tree.Shape.{Shape}
 use Rattle.nodes.specs.declared.tree.Shape.TheVariants.{Says, Test, All, Any, Not, Exists, Nothing}
 
--- ---- what a node is by its first byte
-
-unfoldable pub later_shape : ℕ → Shape
-later_shape b = choose (eqb b 4) Any (choose (eqb b 5) Not (choose (eqb b 6) Exists Nothing))
-
+-- what a node is by its first byte
 unfoldable pub shape_of : ℕ → Shape
-shape_of b = choose (eqb b 1) Says (choose (eqb b 2) Test (choose (eqb b 3) All (later_shape b)))
+shape_of b =
+    if b == 1 then Says
+    else (if b == 2 then Test else (if b == 3 then All else (if b == 4 then Any else (if b == 5 then Not else (if b == 6 then Exists else Nothing)))))
 
 abbrev pub shape_at : List ℕ → ℕ → Shape
 shape_at s at = shape_of (byte_at s at)
@@ -32,7 +30,7 @@ module _ (sg s : List ℕ) where
 
   unfoldable pub end_in : ℕ → ℕ → ℕ
   end_in zero at = at
-  end_in (suc d) at = choose (leb (length s) at) at (end_of (shape_at s at) (end_in d) at)
+  end_in (suc d) at = if nat_le (length s) at then at else end_of (shape_at s at) (end_in d) at
 
   -- ---- and what it is
 
@@ -47,4 +45,4 @@ module _ (sg s : List ℕ) where
 
   unfoldable pub tree_in : ℕ → ℕ → Node
   tree_in zero at = all_of end
-  tree_in (suc d) at = choose (leb (length s) at) (all_of end) (tree_of (shape_at s at) (tree_in d) (end_in d) at)
+  tree_in (suc d) at = if nat_le (length s) at then all_of end else tree_of (shape_at s at) (tree_in d) (end_in d) at

@@ -8,24 +8,25 @@ ghost use Rattle.wire.specs.Budget.{longest};
 ghost use Rattle.nodes.specs.Tree.{shape_at};
 ghost use Rattle.nodes.specs.Nodes.{own_form, fits_to, test_in, says_asks, says_in, reads_by, read_in};
 
-use kinds::Fit;
+use kinds::Cells;
 use limits::VARIABLES;
-use phrases::Form;
+use phrases::Fault;
+use slices::{Reason, Refusal};
 use tree::Shape;
 
 pub mod tree;
 
 const LAST_VARIABLE: usize = VARIABLES - 1;
 
-// Where reading goes on (no is 0), or a refusal's number and place; and the variables' cells.
+// Where reading goes on after a node, and the variables' cells then.
 #[derive(Clone, Copy)]
-pub struct Got {
-    pub no: u8,
+pub struct Reached {
     pub at: usize,
-    pub of: [u8; VARIABLES],
+    pub cells: Cells,
 }
 
 // "count byte 1 to 8"
+#[tactic(auto, unfolding(model::specs::Nodes::parts_form, model::specs::Bytes::both, model::specs::Bytes::choose))]
 fn parts_form(s: &[u8], p: usize) -> bool
     ensures { result ≡ parts_form s.now p }
 {
@@ -34,6 +35,7 @@ fn parts_form(s: &[u8], p: usize) -> bool
 }
 
 // "variable byte 0 to 7"
+#[tactic(auto, unfolding(model::specs::Nodes::variable_form, model::specs::Bytes::both, model::specs::Bytes::choose))]
 fn variable_form(s: &[u8], p: usize) -> bool
     ensures { result ≡ variable_form s.now p }
 {
@@ -41,155 +43,107 @@ fn variable_form(s: &[u8], p: usize) -> bool
 }
 
 // The form of a node's own bytes, but for a says node and a constraint.
+#[tactic(auto, using(crate::proofs::NodeSteps::own_steps))]
 fn own_form(s: &[u8], at: usize) -> bool
     requires { at ≤ longest }
     ensures { result ≡ own_form s.now (shape_at s.now at) at }
 {
     match tree::shape_at(s, at) {
-        Shape::Says => true,
-        Shape::Test => true,
-        Shape::All => parts_form(s, at + 1),
-        Shape::Any => parts_form(s, at + 1),
-        Shape::Not => true,
+        Shape::Says | Shape::Test | Shape::Not => true,
+        Shape::All | Shape::Any => parts_form(s, at + 1),
         Shape::Exists => variable_form(s, at + 1),
         Shape::Nothing => false,
     }
 }
 
 // The item at `at` that ends at e, by its kinds.
-fn fitted(f: Fit, at: usize, e: usize) -> Got
-    ensures { result ≡ fits_to f at e }
+fn fitted(fit: Option<Cells>, at: usize, e: usize) -> Result<Reached, Refusal>
+    ensures { result ≡ fits_to fit at e }
 {
-    let u = f.of;
-    if f.ok {
-        return Got {
-            no: 0,
-            at: e,
-            of: u,
-        };
-    }
-    Got {
-        no: 5,
-        at: at,
-        of: u,
-    }
+    let cells = fit.ok_or(Reason::Unfit.at(at))?;
+    Ok(Reached { at: e, cells })
 }
 
 // The kinds of a says node's issuer and fact.
-fn says_fit(ks: &[u8], sg: &[u8], s: &[u8], at: usize, t: [u8; VARIABLES]) -> Fit
+#[tactic(auto, using(kinds::proofs::Laws::feed_more), unfolding(crate::specs::Nodes::says_asks))]
+fn says_fit(ks: &[u8], sg: &[u8], s: &[u8], at: usize, t: Cells) -> Option<Cells>
     requires { at ≤ longest }
     ensures { result ≡ feed (says_asks ks.now sg.now s.now at) t }
 {
-    let f = kinds::alike(t, phrases::place_at(ks, s, at + 1), kinds::ANY_PRINCIPAL);
-    if f.ok {
-        let u = f.of;
-        return phrases::fact_fit(ks, sg, s, at + 3, u);
-    }
-    f
+    let u = kinds::alike(t, phrases::place_at(ks, s, at + 1), kinds::ANY_PRINCIPAL)?;
+    phrases::fact_fit(ks, sg, s, at + 3, u)
 }
 
 // A says node: issuer and fact.
-fn says_at(ks: &[u8], sg: &[u8], s: &[u8], at: usize, t: [u8; VARIABLES]) -> Got
+#[tactic(auto, unfolding(crate::specs::Nodes::says_in))]
+fn says_at(ks: &[u8], sg: &[u8], s: &[u8], at: usize, t: Cells) -> Result<Reached, Refusal>
     requires { at ≤ longest }
     ensures { result ≡ says_in ks.now sg.now s.now at t }
 {
     match phrases::fact_form(sg, s, s.len(), at + 3) {
-        Form::Ends(e) => fitted(says_fit(ks, sg, s, at, t), at, e),
-        Form::Broken => Got {
-            no: 3,
-            at: at,
-            of: t,
-        },
-        Form::NoVerb => Got {
-            no: 5,
-            at: at,
-            of: t,
-        },
+        Ok(e) => fitted(says_fit(ks, sg, s, at, t), at, e),
+        Err(Fault::Broken) => Err(Reason::Form.at(at)),
+        Err(Fault::NoVerb) => Err(Reason::Unfit.at(at)),
     }
 }
 
 // A constraint node.
-fn test_at(ks: &[u8], s: &[u8], at: usize, t: [u8; VARIABLES]) -> Got
+#[tactic(auto, unfolding(crate::specs::Nodes::test_in))]
+fn test_at(ks: &[u8], s: &[u8], at: usize, t: Cells) -> Result<Reached, Refusal>
     requires { at ≤ longest }
     ensures { result ≡ test_in ks.now s.now at t }
 {
-    if s.len() < at + 6 {
-        return Got {
-            no: 3,
-            at: at,
-            of: t,
-        };
+    if s.len() < at + 6 || !phrases::operator_form(s, at + 1) {
+        return Err(Reason::Form.at(at));
     }
-    if phrases::operator_form(s, at + 1) {
-        return fitted(phrases::test_fit(ks, s, at + 1, t), at, at + 6);
-    }
-    Got {
-        no: 3,
-        at: at,
-        of: t,
-    }
+    fitted(phrases::test_fit(ks, s, at + 1, t), at, at + 6)
 }
 
 // The node at `at`, which may hold others d - 1 deep, after items that left the cells t.
 #[cycle(node_parts)]
-pub fn node(ks: &[u8], sg: &[u8], s: &[u8], d: usize, at: usize, t: [u8; VARIABLES]) -> Got
+#[tactic(auto, using(crate::proofs::NodeSteps::read_steps))]
+pub fn node(
+    ks: &[u8],
+    sg: &[u8],
+    s: &[u8],
+    d: usize,
+    at: usize,
+    t: Cells,
+) -> Result<Reached, Refusal>
     requires { length s.now ≤ longest }
     ensures { result ≡ read_in ks.now sg.now s.now d at t }
 {
-    if d == 0 {
-        return Got {
-            no: 3,
-            at: at,
-            of: t,
-        };
-    }
-    if s.len() <= at {
-        return Got {
-            no: 3,
-            at: at,
-            of: t,
-        };
-    }
-    if !own_form(s, at) {
-        return Got {
-            no: 3,
-            at: at,
-            of: t,
-        };
+    if d == 0 || s.len() <= at || !own_form(s, at) {
+        return Err(Reason::Form.at(at));
     }
     match tree::shape_at(s, at) {
         Shape::Says => says_at(ks, sg, s, at, t),
         Shape::Test => test_at(ks, s, at, t),
-        Shape::All => parts(ks, sg, s, d - 1, wire::byte_or(s, at + 1), at + 2, t),
-        Shape::Any => parts(ks, sg, s, d - 1, wire::byte_or(s, at + 1), at + 2, t),
+        Shape::All | Shape::Any => parts(ks, sg, s, d - 1, wire::byte_or(s, at + 1), at + 2, t),
         Shape::Not => node(ks, sg, s, d - 1, at + 1, t),
         Shape::Exists => node(ks, sg, s, d - 1, at + 2, t),
-        Shape::Nothing => Got {
-            no: 3,
-            at: at,
-            of: t,
-        },
+        Shape::Nothing => Err(Reason::Form.at(at)),
     }
 }
 
 // n nodes from `at` on.
 #[cycle(node_parts)]
-fn parts(ks: &[u8], sg: &[u8], s: &[u8], d: usize, n: usize, at: usize, t: [u8; VARIABLES]) -> Got
-    requires { (length s.now ≤ longest) × (n < 256) }
+#[tactic(auto, using(crate::proofs::NodeSteps::read_steps))]
+fn parts(
+    ks: &[u8],
+    sg: &[u8],
+    s: &[u8],
+    d: usize,
+    n: usize,
+    at: usize,
+    t: Cells,
+) -> Result<Reached, Refusal>
+    requires { length s.now ≤ longest }
     ensures { result ≡ reads_by (read_in ks.now sg.now s.now d) n at t }
 {
-    if n == 0 {
-        return Got {
-            no: 0,
-            at: at,
-            of: t,
-        };
+    let mut reached = Reached { at, cells: t };
+    for _ in 0..n {
+        reached = node(ks, sg, s, d, reached.at, reached.cells)?;
     }
-    let g = node(ks, sg, s, d, at, t);
-    if g.no == 0 {
-        let u = g.of;
-        let p = g.at;
-        return parts(ks, sg, s, d, n - 1, p, u);
-    }
-    g
+    Ok(reached)
 }

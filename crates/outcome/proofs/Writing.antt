@@ -17,17 +17,6 @@ further a b r q e h =
     let go : (l : List ℕ) → drop (q - r) (drop r l) ≡ drop q l = λ l. drop-drop (q - r) r l ∙ ap (λ (k : ℕ). drop k l) i in
     sym (go b) ∙ ap (drop (q - r)) e ∙ go a
 
--- b is a with the whole of w pasted in
-pub pasted : (a b : List ℕ) (at : ℕ) (w : List ℕ) (i : ℕ) → at + length w ≤ length a → i ≡ length w → b ≡ paste a at w i
-    → Wrote a b at (at + i) (at + length w) (take at a ++ w)
-pasted a b at w i h e f = record {
-  is = rw (f, e) (take-paste a at w (length w) (omega arith) (omega arith) ∙ ap (λ (l : List ℕ). take at a ++ l) (take_all (length w) w (omega arith)));
-  rest = rw (f, e) (drop-paste a at w (length w) (omega arith) (omega arith));
-  onward = omega arith;
-  near = omega arith;
-  whole = rw (f, e) (length-paste a at w (length w) h (omega arith));
-}
-
 -- a byte after the text
 pub byte : (a b : List ℕ) (at r most more x : ℕ) (t : List ℕ) → Wrote a b at r most t → r < length b → most + 1 ≤ more
     → Wrote a (set b r x) at (r + 1) more (t ++ (x ∷ []))

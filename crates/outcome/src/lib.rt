@@ -69,12 +69,9 @@ fn word(out: &mut [u8], at: usize, w: &[u8]) -> usize
     requires { at + length w.now ≤ length out.old }
     ensures { Wrote out.old out.new at result (at + length w.now) (take at out.old ++ w.now) }
 {
-    let mut i = 0;
-    while i < w.len() {
-        out[at + i] = w[i];
-        i += 1;
-    }
-    at + i
+    let end = at + w.len();
+    out[at..end].copy_from_slice(w);
+    end
 }
 
 fn digit(d: usize) -> u8

@@ -5,7 +5,6 @@ use mathlib.Core.Bool.{true}
 use mathlib.Core.List.Memᴰ
 use mathlib.Core.List.{List, Memᴰ}
 use Prim.Native.Nat.{ℕ, zero, suc, ◌+◌, ◌≤◌}
-use native.Mathlib.Omega.{arith}
 use lib.Dec.{leb}
 use borrow.Author.Tests.{leb-true}
 use Rattle.model.specs.Syntax.{Constraint}
@@ -15,27 +14,25 @@ use Rattle.model.specs.Forms as forms
 use Rattle.model.specs.Forms.{ends, broken, no_verb, operator_form, operators_form}
 pub use Rattle.model.proofs.ReaderEnds.{form_ends, form_within, forms_end, forms_within}
 use Rattle.wire.proofs.Reading.{both_first, both_second}
-use Rattle.phrases.specs.declared.Form.TheVariants.{Ends, Broken, NoVerb}
+use Rattle.std.proofs.Common.{Ok, Err}
+use Rattle.phrases.specs.declared.Fault.TheVariants.{Broken, NoVerb}
 use Rattle.phrases.specs.Phrases.{code_form}
 
 -- ---- the code's answer tells the model's
 
-pub code_ends : (φ : forms.Form) (q : ℕ) → code_form φ ≡ Ends q → φ ≡ ends q
-unfolding code_form
+pub code_ends : (φ : forms.Form) (q : ℕ) → code_form φ ≡ Ok q → φ ≡ ends q
 code_ends (ends p) q e = ap ends (let d : p ≡ q = cc in d)
-code_ends broken q e = absurd (let z : ◌≡◌ {A = ℕ} 0 1 = cc in omega arith)
-code_ends no_verb q e = absurd (let z : ◌≡◌ {A = ℕ} 0 1 = cc in omega arith)
+code_ends broken q e = absurd (cc)
+code_ends no_verb q e = absurd (cc)
 
-pub code_broken : (φ : forms.Form) → code_form φ ≡ Broken → φ ≡ broken
-unfolding code_form
-code_broken (ends p) e = absurd (let z : ◌≡◌ {A = ℕ} 0 1 = cc in omega arith)
+pub code_broken : (φ : forms.Form) → code_form φ ≡ Err Broken → φ ≡ broken
+code_broken (ends p) e = absurd (cc)
 code_broken broken e = refl
-code_broken no_verb e = absurd (let z : ◌≡◌ {A = ℕ} 0 1 = cc in omega arith)
+code_broken no_verb e = absurd (cc)
 
-pub code_no_verb : (φ : forms.Form) → code_form φ ≡ NoVerb → φ ≡ no_verb
-unfolding code_form
-code_no_verb (ends p) e = absurd (let z : ◌≡◌ {A = ℕ} 0 1 = cc in omega arith)
-code_no_verb broken e = absurd (let z : ◌≡◌ {A = ℕ} 0 1 = cc in omega arith)
+pub code_no_verb : (φ : forms.Form) → code_form φ ≡ Err NoVerb → φ ≡ no_verb
+code_no_verb (ends p) e = absurd (cc)
+code_no_verb broken e = absurd (cc)
 code_no_verb no_verb e = refl
 
 -- ---- constraints

@@ -1,148 +1,109 @@
--- Each recursive definition of the specification, one step on, as the code takes it.
-use mathlib.Core.Path.{◌≡◌, refl}
-use mathlib.Core.Bool.{Bool, true, false}
-use mathlib.Core.List.{List, ◌++◌}
-use Prim.Native.Nat.{ℕ, zero, suc, ◌+◌, ◌-◌, ◌*◌}
-use native.Mathlib.Numerals.{sub-one}
-use lib.Dec.{ltb}
-use Rattle.model.specs.Bytes.{byte_at, choose, both}
+-- Each recursive definition of the specification, one step on, as the code's loops take it, and at their end.
+use Rattle.std.proofs.Common.{◌≡◌, ℕ, suc, ◌+◌, ◌-◌, ◌*◌, ◌<◌, ◌≤◌, Bool, true, false, ◌&&◌, List, ◌||◌, nat_lt, if◌then◌else◌}
+use Rattle.std.proofs.Common.{Some, option_and_then, Ok, Err, refl, arith}
+use Rattle.model.specs.Bytes.{byte_at, both, choose}
 use Rattle.model.specs.Forms.{operator_form, operators_form}
-use Rattle.kinds.specs.Cells.{Ask, good, alike, feed}
+use Rattle.kinds.specs.Cells.{alike, asked, feed}
 use Rattle.kinds.specs.Asks.{kind_term}
-use Rattle.kinds.specs.declared.Fit.{Fit}
-use Rattle.kinds.proofs.Laws.{then_good, then_bad, feed_none, feed_same, feed_differ, feed_append}
-use Rattle.phrases.specs.declared.Form.{Form}
-use Rattle.phrases.specs.declared.Form.TheVariants.{Ends, Broken, NoVerb}
+use Rattle.kinds.proofs.Laws.{feed_append}
+use Rattle.phrases.specs.declared.Fault.TheVariants.{Broken}
 use Rattle.phrases.specs.Phrases.{arity_by, fact_next, facts_next, then_by, phrase_form_by, levels_form_by, fact_form_by, facts_form_by, place_at, params_asks}
 use Rattle.phrases.specs.Phrases.{levels_asks, fact_asks, facts_asks, test_asks, tests_asks}
 
+-- what is left of n after i, before one more and at the end
+pub left : (n i : ℕ) → i < n → n - i ≡ suc (n - (i + 1))
+left n i h = omega arith
+
+pub done : (n i : ℕ) → n ≤ i → n - i ≡ 0
+done n i h = omega arith
+
+-- the i-th of parts of w bytes from p on, and the next
+pub next : (p w i : ℕ) → p + w * i + w ≡ p + w * (i + 1)
+next p w i = omega arith
+
 -- ---- where facts end
 
-module _ (sg s : List ℕ) where
-  pub nexts_none : (n p : ℕ) → n ≡ 0 → p ≡ facts_next sg n s p
+module _ (sg s : List ℕ) (n i p : ℕ) where
+  pub nexts_step : i < n → facts_next sg (n - i) s p ≡ facts_next sg (n - (i + 1)) s (fact_next sg s p)
   unfolding facts_next
-  nexts_none n p e = rw e
+  nexts_step h = rw (left n i h)
 
-  pub nexts_more : (n p z : ℕ) → (n ≡ 0 → ⊥) → z ≡ facts_next sg (n - 1) s (fact_next sg s p) → z ≡ facts_next sg n s p
+  pub nexts_end : n ≤ i → facts_next sg (n - i) s p ≡ p
   unfolding facts_next
-  nexts_more zero p z h g = absurd (h refl)
-  nexts_more (suc n) p z h g = rw sub-one at g
+  nexts_end h = rw (done n i h)
 
 -- ---- form
 
-module _ (sg s : List ℕ) (e : ℕ) where
-  pub levels_none : (m p : ℕ) (z : Form) → m ≡ 0 → z ≡ phrase_form_by sg s e p → z ≡ levels_form_by sg s e m p
+module _ (sg s : List ℕ) (e n i p : ℕ) where
+  pub levels_step : i < n → levels_form_by sg s e (n - i) (p + 3 * i)
+      ≡ (if nat_lt e (p + 3 * i + 3) || nat_lt 1 (byte_at s (p + 3 * i + 2)) then Err Broken else levels_form_by sg s e (n - (i + 1)) (p + 3 * (i + 1)))
   unfolding levels_form_by
-  levels_none m p z h g = rw h g
+  levels_step h = rw (left n i h, ← next p 3 i)
 
-  pub levels_more : (m p : ℕ) (z : Form) → (m ≡ 0 → ⊥)
-      → z ≡ choose (ltb e (p + 3)) Broken (choose (ltb 1 (byte_at s (p + 2))) Broken (levels_form_by sg s e (m - 1) (p + 3)))
-      → z ≡ levels_form_by sg s e m p
+  pub levels_end : n ≤ i → levels_form_by sg s e (n - i) p ≡ phrase_form_by sg s e p
   unfolding levels_form_by
-  levels_more zero p z h g = absurd (h refl)
-  levels_more (suc m) p z h g = rw sub-one at g
+  levels_end h = rw (done n i h)
 
-  pub forms_none : (n p : ℕ) → n ≡ 0 → Ends p ≡ facts_form_by sg s e n p
+  pub forms_step : i < n → facts_form_by sg s e (n - i) p ≡ then_by (fact_form_by sg s e p) (facts_form_by sg s e (n - (i + 1)))
   unfolding facts_form_by
-  forms_none n p h = rw h
+  forms_step h = rw (left n i h)
 
-  pub forms_more : (n p : ℕ) (z : Form) → (n ≡ 0 → ⊥) → z ≡ then_by (fact_form_by sg s e p) (facts_form_by sg s e (n - 1)) → z ≡ facts_form_by sg s e n p
+  pub forms_end : n ≤ i → facts_form_by sg s e (n - i) p ≡ Ok p
   unfolding facts_form_by
-  forms_more zero p z h g = absurd (h refl)
-  forms_more (suc n) p z h g = rw sub-one at g
+  forms_end h = rw (done n i h)
 
-pub then_ends : (x y : Form) (p : ℕ) (f : ℕ → Form) (z : Form) → y ≡ x → y ≡ Ends p → z ≡ f p → z ≡ then_by x f
-unfolding then_by
-then_ends x y p f z d e h = rw (← d, e) h
+both_is : (a b : Bool) → both a b ≡ a && b
+unfolding both choose
+both_is true b = refl
+both_is false b = refl
 
-pub then_broken : (x y : Form) (f : ℕ → Form) → y ≡ x → y ≡ Broken → Broken ≡ then_by x f
-unfolding then_by
-then_broken x y f d e = rw (← d, e)
-
-pub then_no_verb : (x y : Form) (f : ℕ → Form) → y ≡ x → y ≡ NoVerb → NoVerb ≡ then_by x f
-unfolding then_by
-then_no_verb x y f d e = rw (← d, e)
-
-module _ (s : List ℕ) where
-  pub operators_none : (n p : ℕ) → n ≡ 0 → true ≡ operators_form n s p
+module _ (s : List ℕ) (n i p : ℕ) where
+  pub operators_step : i < n → operators_form (n - i) s (p + 5 * i) ≡ operator_form s (p + 5 * i) && operators_form (n - (i + 1)) s (p + 5 * (i + 1))
   unfolding operators_form
-  operators_none n p e = rw e
+  operators_step h = rw (left n i h, ← next p 5 i) (both_is _ _)
 
-  pub operators_more : (n p : ℕ) (z : Bool) → (n ≡ 0 → ⊥) → z ≡ both (operator_form s p) (operators_form (n - 1) s (p + 5)) → z ≡ operators_form n s p
+  pub operators_end : n ≤ i → operators_form (n - i) s p ≡ true
   unfolding operators_form
-  operators_more zero p z h g = absurd (h refl)
-  operators_more (suc n) p z h g = rw sub-one at g
+  operators_end h = rw (done n i h)
 
 -- ---- kinds
 
-module _ (ks sg s : List ℕ) where
-  pub params_none : (n k p : ℕ) (t : List ℕ) (z : Fit) → n ≡ 0 → z ≡ good t → z ≡ feed (params_asks ks sg s n k p) t
-  unfolding params_asks
-  params_none n k p t z h g = rw h (feed_none t z g)
+module _ (ks sg s : List ℕ) (n i : ℕ) where
+  pub params_step : (k p : ℕ) (t : List ℕ) → i < n → feed (params_asks ks sg s (n - i) (k + i) (p + 2 * i)) t
+      ≡ option_and_then (feed (params_asks ks sg s (n - (i + 1)) (k + (i + 1)) (p + 2 * (i + 1))))
+      (alike t (place_at ks s (p + 2 * i)) (kind_term (byte_at sg (k + i))))
+  unfolding params_asks feed asked
+  params_step k p t h = let e : k + i + 1 ≡ k + (i + 1) = omega arith in rw (left n i h, ← next p 2 i, ← e)
 
-  pub params_good : (n k p : ℕ) (t : List ℕ) (y z : Fit) → (n ≡ 0 → ⊥) → y ≡ alike t (place_at ks s p) (kind_term (byte_at sg k)) → y.ok ≡ true
-      → z ≡ feed (params_asks ks sg s (n - 1) (k + 1) (p + 2)) y.of → z ≡ feed (params_asks ks sg s n k p) t
-  unfolding params_asks
-  params_good zero k p t y z h d e g = absurd (h refl)
-  params_good (suc n) k p t y z h d e g = feed_same _ _ _ t y z d e (rw sub-one at g)
+  pub params_end : (k p : ℕ) (t : List ℕ) → n ≤ i → feed (params_asks ks sg s (n - i) k p) t ≡ Some t
+  unfolding params_asks feed
+  params_end k p t h = rw (done n i h)
 
-  pub params_bad : (n k p : ℕ) (t : List ℕ) (y : Fit) → (n ≡ 0 → ⊥) → y ≡ alike t (place_at ks s p) (kind_term (byte_at sg k)) → y.ok ≡ false
-      → y ≡ feed (params_asks ks sg s n k p) t
-  unfolding params_asks
-  params_bad zero k p t y h d e = absurd (h refl)
-  params_bad (suc n) k p t y h d e = feed_differ _ _ _ t y d e
+  pub speakers_step : (p : ℕ) (t : List ℕ) → i < n → feed (levels_asks ks sg s (n - i) (p + 3 * i)) t
+      ≡ option_and_then (feed (levels_asks ks sg s (n - (i + 1)) (p + 3 * (i + 1)))) (alike t (place_at ks s (p + 3 * i)) 8)
+  unfolding levels_asks feed asked
+  speakers_step p t h = rw (left n i h, ← next p 3 i)
 
-  pub speakers_none : (m p : ℕ) (t : List ℕ) (y z : Fit) → m ≡ 0 → y ≡ alike t (place_at ks s p) 8 → y.ok ≡ true
-      → z ≡ feed (params_asks ks sg s (arity_by sg (byte_at s (p + 2))) (4 * byte_at s (p + 2) + 1) (p + 3)) y.of → z ≡ feed (levels_asks ks sg s m p) t
-  unfolding levels_asks
-  speakers_none m p t y z h d e g = rw h (feed_same _ _ _ t y z d e g)
+  pub speakers_end : (p : ℕ) (t : List ℕ) → n ≤ i → feed (levels_asks ks sg s (n - i) p) t
+      ≡ option_and_then (feed (params_asks ks sg s (arity_by sg (byte_at s (p + 2))) (4 * byte_at s (p + 2) + 1) (p + 3))) (alike t (place_at ks s p) 8)
+  unfolding levels_asks feed asked
+  speakers_end p t h = rw (done n i h)
 
-  pub speakers_more : (m p : ℕ) (t : List ℕ) (y z : Fit) → (m ≡ 0 → ⊥) → y ≡ alike t (place_at ks s p) 8 → y.ok ≡ true
-      → z ≡ feed (levels_asks ks sg s (m - 1) (p + 3)) y.of → z ≡ feed (levels_asks ks sg s m p) t
-  unfolding levels_asks
-  speakers_more zero p t y z h d e g = absurd (h refl)
-  speakers_more (suc m) p t y z h d e g = feed_same _ _ _ t y z d e (rw sub-one at g)
-
-  pub speakers_bad : (m p : ℕ) (t : List ℕ) (y : Fit) → y ≡ alike t (place_at ks s p) 8 → y.ok ≡ false → y ≡ feed (levels_asks ks sg s m p) t
-  unfolding levels_asks
-  speakers_bad zero p t y d e = feed_differ _ _ _ t y d e
-  speakers_bad (suc m) p t y d e = feed_differ _ _ _ t y d e
-
--- items one after the other
-feed_more : (xs ys : List Ask) (t : List ℕ) (y z : Fit) → y ≡ feed xs t → y.ok ≡ true → z ≡ feed ys y.of → z ≡ feed (xs ++ ys) t
-feed_more xs ys t y z d e h = rw (feed_append xs ys t) (then_good (feed xs t) y (feed ys) z d e h)
-
-feed_stop : (xs ys : List Ask) (t : List ℕ) (y : Fit) → y ≡ feed xs t → y.ok ≡ false → y ≡ feed (xs ++ ys) t
-feed_stop xs ys t y d e = rw (feed_append xs ys t) (then_bad (feed xs t) y (feed ys) d e)
-
-module _ (ks sg s : List ℕ) where
-  pub facts_none : (n p : ℕ) (t : List ℕ) (z : Fit) → n ≡ 0 → z ≡ good t → z ≡ feed (facts_asks ks sg s n p) t
+  pub facts_step : (p : ℕ) (t : List ℕ) → i < n → feed (facts_asks ks sg s (n - i) p) t
+      ≡ option_and_then (feed (facts_asks ks sg s (n - (i + 1)) (fact_next sg s p))) (feed (fact_asks ks sg s p) t)
   unfolding facts_asks
-  facts_none n p t z h g = rw h (feed_none t z g)
+  facts_step p t h = rw (left n i h) (feed_append _ _ t)
 
-  pub facts_more : (n p : ℕ) (t : List ℕ) (y z : Fit) → (n ≡ 0 → ⊥) → y ≡ feed (fact_asks ks sg s p) t → y.ok ≡ true
-      → z ≡ feed (facts_asks ks sg s (n - 1) (fact_next sg s p)) y.of → z ≡ feed (facts_asks ks sg s n p) t
-  unfolding facts_asks
-  facts_more zero p t y z h d e g = absurd (h refl)
-  facts_more (suc n) p t y z h d e g = feed_more _ _ t y z d e (rw sub-one at g)
+  pub facts_end : (p : ℕ) (t : List ℕ) → n ≤ i → feed (facts_asks ks sg s (n - i) p) t ≡ Some t
+  unfolding facts_asks feed
+  facts_end p t h = rw (done n i h)
 
-  pub facts_stop : (n p : ℕ) (t : List ℕ) (y : Fit) → (n ≡ 0 → ⊥) → y ≡ feed (fact_asks ks sg s p) t → y.ok ≡ false → y ≡ feed (facts_asks ks sg s n p) t
-  unfolding facts_asks
-  facts_stop zero p t y h d e = absurd (h refl)
-  facts_stop (suc n) p t y h d e = feed_stop _ _ t y d e
-
-module _ (ks s : List ℕ) where
-  pub tests_none : (n p : ℕ) (t : List ℕ) (z : Fit) → n ≡ 0 → z ≡ good t → z ≡ feed (tests_asks ks s n p) t
+module _ (ks s : List ℕ) (n i p : ℕ) (t : List ℕ) where
+  pub tests_step : i < n → feed (tests_asks ks s (n - i) (p + 5 * i)) t
+      ≡ option_and_then (feed (tests_asks ks s (n - (i + 1)) (p + 5 * (i + 1)))) (feed (test_asks ks s (p + 5 * i)) t)
   unfolding tests_asks
-  tests_none n p t z h g = rw h (feed_none t z g)
+  tests_step h = rw (left n i h, ← next p 5 i) (feed_append _ _ t)
 
-  pub tests_more : (n p : ℕ) (t : List ℕ) (y z : Fit) → (n ≡ 0 → ⊥) → y ≡ feed (test_asks ks s p) t → y.ok ≡ true
-      → z ≡ feed (tests_asks ks s (n - 1) (p + 5)) y.of → z ≡ feed (tests_asks ks s n p) t
-  unfolding tests_asks
-  tests_more zero p t y z h d e g = absurd (h refl)
-  tests_more (suc n) p t y z h d e g = feed_more _ _ t y z d e (rw sub-one at g)
-
-  pub tests_stop : (n p : ℕ) (t : List ℕ) (y : Fit) → (n ≡ 0 → ⊥) → y ≡ feed (test_asks ks s p) t → y.ok ≡ false → y ≡ feed (tests_asks ks s n p) t
-  unfolding tests_asks
-  tests_stop zero p t y h d e = absurd (h refl)
-  tests_stop (suc n) p t y h d e = feed_stop _ _ t y d e
+  pub tests_end : n ≤ i → feed (tests_asks ks s (n - i) p) t ≡ Some t
+  unfolding tests_asks feed
+  tests_end h = rw (done n i h)

@@ -1,7 +1,8 @@
 -- What the code reads by the two tables is what the model reads by the constants and the verbs.
 use mathlib.Core.Path.{◌≡◌, refl, sym, ap, ap₂, ◌∙◌}
 use mathlib.Core.Logic.{⊎_elim}
-use mathlib.Core.Bool.{Bool, true, false}
+use mathlib.Core.Bool.{Bool, true, false, cond, ◌||◌}
+use Rattle.std.proofs.Common.{Result, Ok, Err, ◌==◌, nat_lt, if◌then◌else◌}
 use mathlib.Core.List.Memᴰ
 use mathlib.Core.List.{List, [], ◌∷◌, ◌++◌, map, map-append, Memᴰ}
 use Prim.Native.Nat.{ℕ, zero, suc, ◌+◌, ◌-◌, ◌*◌, ◌≤◌, ◌<◌}
@@ -9,7 +10,7 @@ use native.Mathlib.Decide.{dec_lt}
 use native.Mathlib.Omega.{arith}
 use lib.Dec.{ltb, leb, eqb}
 use lib.ListN.{length, get_or, length-map, get_or-eq_default}
-use borrow.Author.Tests.{lt-ltb, le-ltb, eq-eqb, ne_eqb}
+use borrow.Author.Tests.{lt-ltb, le-ltb, ne_eqb}
 use Rattle.model.specs.Limits.{principal, first_variable, today_code}
 use Rattle.model.specs.Lists.{each}
 use Rattle.model.specs.Syntax.{Expr, con, var, today, Fact, flat, can_say, Constant, Verb}
@@ -19,11 +20,10 @@ use Rattle.model.specs.Readings.{arity_of, expr_of, expr_at, exprs_at, constrain
 use Rattle.model.specs.Readings.{facts_end}
 use Rattle.model.specs.Forms as forms
 use Rattle.model.specs.Forms.{then_form, phrase_form, levels_form, fact_form, facts_form}
-use Rattle.wire.proofs.Reading.{choose_true, choose_false}
 use Rattle.kinds.specs.Cells.{Ask, same}
 use Rattle.kinds.specs.Asks.{kind_term, var_term, term_of, place_term, ask_place, operator_asks, ask_test}
-use Rattle.phrases.specs.declared.Form.{Form}
-use Rattle.phrases.specs.declared.Form.TheVariants.{Ends, Broken, NoVerb}
+use Rattle.phrases.specs.declared.Fault.{Fault}
+use Rattle.phrases.specs.declared.Fault.TheVariants.{Broken, NoVerb}
 use Rattle.phrases.specs.Tables.{Tables}
 use Rattle.phrases.specs.Phrases.{arity_by, levels_by, fact_by, fact_next, facts_by, facts_next, code_form, then_by, phrase_form_by, levels_form_by}
 use Rattle.phrases.specs.Phrases.{fact_form_by}
@@ -38,14 +38,21 @@ past_arity : (vs : List Verb) (v : ℕ) → length vs < v → arity_of vs v ≡ 
 unfolding arity_of
 past_arity vs v h = ap length (past_kinds vs v h)
 
-code_choose : (b : Bool) (x y : forms.Form) → code_form (choose b x y) ≡ choose b (code_form x) (code_form y)
+pub code_choose : (b : Bool) (x y : forms.Form) → code_form (choose b x y) ≡ cond b (code_form x) (code_form y)
 unfolding choose
 code_choose true x y = refl
 code_choose false x y = refl
 
-then_code : (x : Form) (φ : forms.Form) (f : ℕ → Form) (g : ℕ → forms.Form) → x ≡ code_form φ → ((q : ℕ) → f q ≡ code_form (g q))
+-- either of two tests fails
+pub code_either : (a b : Bool) (x : forms.Form) → cond (a || b) (Err Broken) (code_form x) ≡ code_form (choose a forms.broken (choose b forms.broken x))
+unfolding choose
+code_either true b x = refl
+code_either false true x = refl
+code_either false false x = refl
+
+pub then_code : (x : Result ℕ Fault) (φ : forms.Form) (f : ℕ → Result ℕ Fault) (g : ℕ → forms.Form) → x ≡ code_form φ → ((q : ℕ) → f q ≡ code_form (g q))
     → then_by x f ≡ code_form (then_form φ g)
-unfolding then_by then_form code_form
+unfolding then_form
 then_code x (forms.ends p) f g e h = rw e (h p)
 then_code x forms.broken f g e h = rw e
 then_code x forms.no_verb f g e h = rw e
@@ -63,22 +70,21 @@ levels_end_law vs (suc m) s p =
     levels_end_law vs m s (p + 3) ∙ ap₂ (λ (x y : ℕ). x + 2 * arity_of vs (byte_at s y)) d e
 
 -- an expression by its class
-of_choice : {A : Type 0} (f : Expr → A) (b : Bool) (x y : Expr) → f (choose b x y) ≡ choose b (f x) (f y)
+of_choice : {A : Type 0} (f : Expr → A) (b : Bool) (x y : Expr) → f (choose b x y) ≡ cond b (f x) (f y)
 unfolding choose
 of_choice f true x y = refl
 of_choice f false x y = refl
 
 of_expr : {A : Type 0} (f : Expr → A) (x : ℕ)
-    → f (expr_of x) ≡ choose (eqb x today_code) (f today) (choose (ltb x first_variable) (f (con x)) (f (var (x - first_variable))))
+    → f (expr_of x) ≡ cond (eqb x today_code) (f today) (cond (ltb x first_variable) (f (con x)) (f (var (x - first_variable))))
 unfolding expr_of
 of_expr f x =
     of_choice f (eqb x today_code) today _
-    ∙ ap (choose (eqb x today_code) (f today)) (of_choice f (ltb x first_variable) (con x) (var (x - first_variable)))
+    ∙ ap (cond (eqb x today_code) (f today)) (of_choice f (ltb x first_variable) (con x) (var (x - first_variable)))
 
-choose_twice : {A : Type 0} (b : Bool) (x y z : A) → choose b x (choose b y z) ≡ choose b x z
-unfolding choose
-choose_twice true x y z = refl
-choose_twice false x y z = refl
+twice : {A : Type 0} (b : Bool) (x y z : A) → cond b x (cond b y z) ≡ cond b x z
+twice true x y z = refl
+twice false x y z = refl
 
 module _ {cs : List Constant} {vs : List Verb} {ks sg : List ℕ} (X : Tables cs vs ks sg) where
   -- ---- facts, and where they end
@@ -123,48 +129,38 @@ module _ {cs : List Constant} {vs : List Verb} {ks sg : List ℕ} (X : Tables cs
     abbrev spans : ℕ → ℕ → forms.Form
     spans p a = choose (ltb e (p + 3 + 2 * a)) forms.broken (forms.ends (p + 3 + 2 * a))
 
-    verb_is : (p v : ℕ)
-        → choose (eqb (byte_at sg (4 * v)) 0) NoVerb (choose (ltb e (p + 1 + 2 * byte_at sg (4 * v))) Broken (Ends (p + 1 + 2 * byte_at sg (4 * v))))
-        ≡ choose (ltb (length vs) v) NoVerb (code_form (spans p (arity_of vs v)))
-    unfolding code_form
+    abbrev verb_form : ℕ → ℕ → Result ℕ Fault
+    verb_form p n = if n == 0 then Err NoVerb else if nat_lt e (p + 1 + 2 * n) then Err Broken else Ok (p + 1 + 2 * n)
+
+    verb_is : (p v : ℕ) → verb_form p (byte_at sg (4 * v)) ≡ cond (ltb (length vs) v) (Err NoVerb) (code_form (spans p (arity_of vs v)))
     verb_is p v = go (dec_lt (length vs) v)
       where
-        go : Dec (length vs < v)
-            → choose (eqb (byte_at sg (4 * v)) 0) NoVerb (choose (ltb e (p + 1 + 2 * byte_at sg (4 * v))) Broken (Ends (p + 1 + 2 * byte_at sg (4 * v))))
-            ≡ choose (ltb (length vs) v) NoVerb (code_form (spans p (arity_of vs v)))
-        go (yes h) = choose_true NoVerb _ (eq-eqb (byte_at sg (4 * v)) 0 (X.past v h)) ∙ sym (choose_true NoVerb _ (lt-ltb (length vs) v h))
+        go : Dec (length vs < v) → verb_form p (byte_at sg (4 * v)) ≡ cond (ltb (length vs) v) (Err NoVerb) (code_form (spans p (arity_of vs v)))
+        go (yes h) = rw (X.past v h, lt-ltb (length vs) v h)
         go (no h) =
             let t : byte_at sg (4 * v) ≡ suc (arity_of vs v) = X.there v (omega arith) in
             let q : p + 1 + 2 * byte_at sg (4 * v) ≡ p + 3 + 2 * arity_of vs v = omega arith in
-            choose_false NoVerb _ (ne_eqb (byte_at sg (4 * v)) 0 (λ z. omega arith))
-            ∙ ap (λ (x : ℕ). choose (ltb e x) Broken (Ends x)) q
-            ∙ sym (code_choose (ltb e (p + 3 + 2 * arity_of vs v)) forms.broken (forms.ends (p + 3 + 2 * arity_of vs v)))
-            ∙ sym (choose_false NoVerb _ (le-ltb (length vs) v (omega arith)))
+            rw (ne_eqb (byte_at sg (4 * v)) 0 (λ z. omega arith), q, le-ltb (length vs) v (omega arith))
+            (sym (code_choose (ltb e (p + 3 + 2 * arity_of vs v)) forms.broken (forms.ends (p + 3 + 2 * arity_of vs v))))
 
     phrase_is : (p : ℕ) → phrase_form_by sg s e p ≡ code_form (phrase_form vs s e p)
-    unfolding phrase_form_by phrase_form code_form
+    unfolding phrase_form_by phrase_form
     phrase_is p =
         let v = byte_at s (p + 2) in
-        ap (choose (ltb e (p + 3)) Broken) (verb_is p v ∙ sym (code_choose (ltb (length vs) v) forms.no_verb (spans p (arity_of vs v))))
+        ap (cond (ltb e (p + 3)) (Err Broken)) (verb_is p v ∙ sym (code_choose (ltb (length vs) v) forms.no_verb (spans p (arity_of vs v))))
         ∙ sym (code_choose (ltb e (p + 3)) forms.broken _)
 
     levels_form_law : (m p : ℕ) → levels_form_by sg s e m p ≡ code_form (levels_form vs s e m p)
-    unfolding levels_form_by levels_form code_form
+    unfolding levels_form_by levels_form
     levels_form_law zero p = phrase_is p
-    levels_form_law (suc m) p =
-        ap (λ (x : Form). choose (ltb e (p + 3)) Broken (choose (ltb 1 (byte_at s (p + 2))) Broken x)) (levels_form_law m (p + 3))
-        ∙ ap (choose (ltb e (p + 3)) Broken) (sym (code_choose (ltb 1 (byte_at s (p + 2))) forms.broken (levels_form vs s e m (p + 3))))
-        ∙ sym (code_choose (ltb e (p + 3)) forms.broken _)
+    levels_form_law (suc m) p = rw (levels_form_law m (p + 3)) (code_either (ltb e (p + 3)) (ltb 1 (byte_at s (p + 2))) (levels_form vs s e m (p + 3)))
 
     pub form_is : (p : ℕ) → fact_form_by sg s e p ≡ code_form (fact_form vs s e p)
-    unfolding fact_form_by fact_form code_form
-    form_is p =
-        ap (λ (x : Form). choose (leb e p) Broken (choose (ltb 3 (byte_at s p)) Broken x)) (levels_form_law (byte_at s p) (p + 1))
-        ∙ ap (choose (leb e p) Broken) (sym (code_choose (ltb 3 (byte_at s p)) forms.broken (levels_form vs s e (byte_at s p) (p + 1))))
-        ∙ sym (code_choose (leb e p) forms.broken _)
+    unfolding fact_form_by fact_form
+    form_is p = rw (levels_form_law (byte_at s p) (p + 1)) (code_either (leb e p) (ltb 3 (byte_at s p)) (levels_form vs s e (byte_at s p) (p + 1)))
 
     pub forms_are : (n p : ℕ) → facts_form_by sg s e n p ≡ code_form (facts_form vs s e n p)
-    unfolding facts_form_by facts_form code_form
+    unfolding facts_form_by facts_form
     forms_are zero p = refl
     forms_are (suc n) p = then_code (fact_form_by sg s e p) (fact_form vs s e p) (facts_form_by sg s e n) (facts_form vs s e n) (form_is p) (λ q. forms_are n q)
 
@@ -173,14 +169,14 @@ module _ {cs : List Constant} {vs : List Verb} {ks sg : List ℕ} (X : Tables cs
   term_of_law : (x : ℕ) → term_by ks x ≡ term_of cs (expr_of x)
   unfolding term_by term_of
   term_of_law x =
-      ap (λ (k : ℕ). choose (eqb x today_code) 10 (choose (ltb x first_variable) (kind_term k) (var_term (x - first_variable)))) (X.kinds x)
+      ap (λ (k : ℕ). cond (eqb x today_code) 10 (cond (ltb x first_variable) (kind_term k) (var_term (x - first_variable)))) (X.kinds x)
       ∙ sym (of_expr (term_of cs) x)
 
   place_of : (x : ℕ) → place_by ks x ≡ place_term cs (expr_of x)
   unfolding place_by term_by place_term
   place_of x =
-      choose_twice (eqb x today_code) 12 10 _
-      ∙ ap (λ (k : ℕ). choose (eqb x today_code) 12 (choose (ltb x first_variable) (kind_term k) (var_term (x - first_variable)))) (X.kinds x)
+      twice (eqb x today_code) 12 10 _
+      ∙ ap (λ (k : ℕ). cond (eqb x today_code) 12 (cond (ltb x first_variable) (kind_term k) (var_term (x - first_variable)))) (X.kinds x)
       ∙ sym (of_expr (place_term cs) x)
 
   module _ (s : List ℕ) where
@@ -211,7 +207,7 @@ module _ {cs : List Constant} {vs : List Verb} {ks sg : List ℕ} (X : Tables cs
         go i l (no h) = omega arith
 
     levels_asks_law : (m p : ℕ) → levels_asks ks sg s m p ≡ map (ask_place cs) (places vs (levels_at vs m s p))
-    unfolding levels_asks levels_at kind_term choose
+    unfolding levels_asks levels_at
     levels_asks_law zero p = ap₂ (λ (a : ℕ) (l : List Ask). same a 8 ∷ l) (place_is p) (words_asks (byte_at s (p + 2)) (p + 3))
     levels_asks_law (suc m) p = ap₂ (λ (a : ℕ) (l : List Ask). same a 8 ∷ l) (place_is p) (levels_asks_law m (p + 3))
 

@@ -1,14 +1,14 @@
 -- Facts and constraints as the code reads them, by the two tables: what they are, where they end, their form, and what they ask of the kinds.
-use Rattle.std.specs.Prelude.{ℕ, zero, suc, ◌+◌, ◌-◌, ◌*◌, List, [], ◌∷◌, ◌++◌, ltb, leb, eqb}
+use Rattle.std.specs.Prelude.{ℕ, zero, suc, ◌+◌, ◌-◌, ◌*◌, List, [], ◌∷◌, ◌++◌, ◌||◌, ◌==◌, nat_lt, nat_le, if◌then◌else◌, Result, Ok, Err}
 use Rattle.model.specs.Limits.{max_nest, unlimited, first_variable, today_code}
 use Rattle.model.specs.Syntax.{Expr, Fact, flat, can_say}
-use Rattle.model.specs.Bytes.{byte_at, u16_at, choose}
+use Rattle.model.specs.Bytes.{byte_at, u16_at}
 use Rattle.model.specs.Readings.{expr_at, exprs_at}
 use Rattle.model.specs.Forms as forms
 use Rattle.kinds.specs.Cells.{Ask, same}
 use Rattle.kinds.specs.Asks.{kind_term, var_term, operator_asks}
-use Rattle.phrases.specs.declared.Form.{Form}
-use Rattle.phrases.specs.declared.Form.TheVariants.{Ends, Broken, NoVerb}
+use Rattle.phrases.specs.declared.Fault.{Fault}
+use Rattle.phrases.specs.declared.Fault.TheVariants.{Broken, NoVerb}
 
 -- how many parameters verb v has, none past the verbs
 unfoldable pub arity_by : List ℕ → ℕ → ℕ
@@ -40,45 +40,48 @@ module _ (sg : List ℕ) where
 -- ---- form
 
 -- the model's answer, as the code gives it
-unfoldable pub code_form : forms.Form → Form
-code_form (forms.ends p) = Ends p
-code_form forms.broken = Broken
-code_form forms.no_verb = NoVerb
+abbrev pub code_form : forms.Form → Result ℕ Fault
+code_form (forms.ends p) = Ok p
+code_form forms.broken = Err Broken
+code_form forms.no_verb = Err NoVerb
 
-unfoldable pub then_by : Form → (ℕ → Form) → Form
-then_by (Ends p) f = f p
-then_by Broken f = Broken
-then_by NoVerb f = NoVerb
+-- one part after another: a fault ends it
+abbrev pub then_by : Result ℕ Fault → (ℕ → Result ℕ Fault) → Result ℕ Fault
+then_by (Ok p) f = f p
+then_by (Err x) f = Err x
 
 -- in an item that ends at e
 module _ (sg s : List ℕ) (e : ℕ) where
-  unfoldable pub phrase_form_by : ℕ → Form
+  unfoldable pub phrase_form_by : ℕ → Result ℕ Fault
   phrase_form_by p =
-      choose (ltb e (p + 3)) Broken
-      (choose (eqb (byte_at sg (4 * byte_at s (p + 2))) 0) NoVerb
-      (choose (ltb e (p + 1 + 2 * byte_at sg (4 * byte_at s (p + 2)))) Broken
-      (Ends (p + 1 + 2 * byte_at sg (4 * byte_at s (p + 2))))))
+      if nat_lt e (p + 3) then Err Broken
+      else if byte_at sg (4 * byte_at s (p + 2)) == 0 then Err NoVerb
+      else if nat_lt e (p + 1 + 2 * byte_at sg (4 * byte_at s (p + 2))) then Err Broken
+      else Ok (p + 1 + 2 * byte_at sg (4 * byte_at s (p + 2)))
 
-  unfoldable pub levels_form_by : ℕ → ℕ → Form
+  unfoldable pub levels_form_by : ℕ → ℕ → Result ℕ Fault
   levels_form_by zero p = phrase_form_by p
-  levels_form_by (suc m) p = choose (ltb e (p + 3)) Broken (choose (ltb unlimited (byte_at s (p + 2))) Broken (levels_form_by m (p + 3)))
+  levels_form_by (suc m) p = if nat_lt e (p + 3) || nat_lt unlimited (byte_at s (p + 2)) then Err Broken else levels_form_by m (p + 3)
 
-  unfoldable pub fact_form_by : ℕ → Form
-  fact_form_by p = choose (leb e p) Broken (choose (ltb max_nest (byte_at s p)) Broken (levels_form_by (byte_at s p) (p + 1)))
+  unfoldable pub fact_form_by : ℕ → Result ℕ Fault
+  fact_form_by p = if nat_le e p || nat_lt max_nest (byte_at s p) then Err Broken else levels_form_by (byte_at s p) (p + 1)
 
-  unfoldable pub facts_form_by : ℕ → ℕ → Form
-  facts_form_by zero p = Ends p
+  unfoldable pub facts_form_by : ℕ → ℕ → Result ℕ Fault
+  facts_form_by zero p = Ok p
   facts_form_by (suc n) p = then_by (fact_form_by p) (facts_form_by n)
 
 -- ---- kinds: expressions as terms
 
 -- in a constraint
 unfoldable pub term_by : List ℕ → ℕ → ℕ
-term_by ks x = choose (eqb x today_code) 10 (choose (ltb x first_variable) (kind_term (byte_at ks x)) (var_term (x - first_variable)))
+term_by ks x =
+    if x == today_code then 10
+    else if nat_lt x first_variable then kind_term (byte_at ks x)
+    else var_term (x - first_variable)
 
 -- in a fact, where today has no fit
 unfoldable pub place_by : List ℕ → ℕ → ℕ
-place_by ks x = choose (eqb x today_code) 12 (term_by ks x)
+place_by ks x = if x == today_code then 12 else term_by ks x
 
 abbrev pub term_at : List ℕ → List ℕ → ℕ → ℕ
 term_at ks s p = term_by ks (u16_at s p)

@@ -1,31 +1,29 @@
 -- From the lists to the whole policy.
 use mathlib.Core.Path.{◌≡◌, refl, sym, ◌∙◌, ap, ap₂, subst}
-use mathlib.Core.Bool.{Bool, true, false}
-use mathlib.Core.List.{List, [], ◌∷◌, ◌++◌}
-use Prim.Native.Nat.{ℕ, zero, suc, ◌+◌, ◌≤◌, ◌<◌}
-use lib.Dec.{eqb}
+use mathlib.Core.Bool.{true, false}
+use mathlib.Core.List.{List}
+use Prim.Native.Nat.{ℕ, ◌+◌, ◌≤◌, ◌<◌}
 use lib.ListN.{length}
 use Rattle.wire.proofs.Reading.{choose_true, choose_false}
 use Rattle.model.specs.Limits.{max_constants, max_verbs, max_assertions, policy_versions}
 use Rattle.model.specs.Syntax.{Assertion, Constant, Verb}
-use Rattle.model.specs.Bytes.{byte_at, u16_at, choose, Reading, got, refused, and_then}
+use Rattle.model.specs.Bytes.{byte_at, u16_at, Reading, got, and_then}
 use Rattle.model.specs.Readings.{item_end, ends_by, constant_read_at, verb_at, assertion_read_at, assertion_end}
 use Rattle.model.specs.Forms as forms
 use Rattle.model.specs.Forms.{ends, broken, no_verb, constant_form, verb_form, assertion_form}
-use Rattle.model.specs.Policies.{Item, contents, version_there, length_right, headed, ended, items_from, list_at, constant_item, verb_item, judged}
+use Rattle.model.specs.Policies.{Item, contents, version_there, length_right, headed, ended, list_at, constant_item, verb_item, judged}
 use Rattle.model.specs.Policies.{assertion_by}
 use Rattle.model.specs.Policies.{assertion_item, Accepted, assertions_from}
 use Rattle.model.proofs.ReadFacts.{never, choose_yes, and_then_got}
 use Rattle.phrases.specs.Tables.{Tables}
-use Rattle.slices.specs.declared.Step.{Step}
-use Rattle.slices.specs.declared.Step.TheVariants.{Next, Refused}
 use Rattle.policy.specs.declared.Index.{Index}
-use Rattle.slices.specs.Steps.{step, then_step, count_right, ended_at}
+use Rattle.slices.specs.Steps.{Step, Next, Refused, step}
 use Rattle.slices.specs.Items.{constants_at, verbs_at, assertions_at}
 use Rattle.policy.specs.Index.{verb_table, index_of, refusal, handed_out, kinds_at, signatures_at, index_at}
-use Rattle.assertions.specs.Assertions.{items_by, assertions_by}
-use Rattle.slices.proofs.ListFacts.{Reads, Counted, step_refused, step_next, list_is, list_got, list_right, items_length, items_starts}
+use Rattle.assertions.specs.Assertions.{item_at, assertions_by}
+use Rattle.slices.proofs.ListFacts.{Reads, Counted, step_refused, step_next, list_got, list_right, items_length, items_starts}
 use Rattle.slices.proofs.ListFacts.{contents_each}
+use Rattle.slices.proofs.ListSteps.{list_steps}
 use Rattle.names.proofs.ItemFacts.{constant_reads, verb_reads, constant_right, verb_right}
 use Rattle.policy.proofs.TableFacts.{kinds_are_law, rows_are, constant_kind, Signed, verb_signed, verb_arity, tables}
 use Rattle.assertions.proofs.AssertionFacts.{Shaped, shaped, item_is}
@@ -57,35 +55,6 @@ module _ (cs : List Constant) (vs : List Verb) (s : List ℕ) where
     within = λ b at x e h. (assertion_got b at x e h).shape.within;
   }
 
-step_then : {A B : Type 0} (r : Reading A) (f : A → ℕ → Reading B) (g : ℕ → Step) → ((x : A) (e : ℕ) → g e ≡ step (f x e))
-    → then_step (step r) g ≡ step (and_then r f)
-unfolding step then_step and_then
-step_then (got x e) f g h = h x e
-step_then (refused n p) f g h = refl
-
-step_choice : {A : Type 0} (b : Bool) (x : A) (p : ℕ) → choose b (Next p) (Refused 3 p) ≡ step (choose b (got x p) (refused 3 p))
-unfolding choose step
-step_choice true x p = refl
-step_choice false x p = refl
-
-ended_is : {A : Type 0} (s : List ℕ) (x : A) (p : ℕ) → ended_at s p ≡ step (ended s x p)
-unfolding ended_at ended
-ended_is s x p = step_choice (eqb p (length s)) x p
-
-list_then : {A B : Type 0} (b : Bool) (r : Reading A) (f : A → ℕ → Reading B) (p : ℕ)
-    → choose b (step (and_then r f)) (Refused 3 p) ≡ step (and_then (choose b r (refused 3 p)) f)
-unfolding choose and_then step
-list_then true r f p = refl
-list_then false r f p = refl
-
-module _ {cs : List Constant} {vs : List Verb} {ks sg : List ℕ} (X : Tables cs vs ks sg) (s : List ℕ) where
-  items_are : (n at : ℕ) (is : List (Item Assertion)) → items_by ks sg s n at ≡ step (items_from (assertion_item cs vs s) n is at)
-  unfolding items_by items_from step
-  items_are zero at is = refl
-  items_are (suc n) at is =
-      ap (λ (y : Step). then_step y (items_by ks sg s n)) (item_is X s at (contents is))
-      ∙ step_then _ _ _ (λ x e. items_are n e (is ++ record { at = at; of = x } ∷ []))
-
 abbrev made : List ℕ → List (Item Constant) → List (Item Verb) → List (Item Assertion) → Accepted
 made s cis vis A = record { version = byte_at s 0; constants = cis; verbs = vis; assertions = A }
 
@@ -93,11 +62,7 @@ module _ (s : List ℕ) (cis : List (Item Constant)) (vis : List (Item Verb)) {k
   pub assertions_are : (p : ℕ) → assertions_by ks sg s p ≡ step (assertions_from s cis vis p)
   unfolding assertions_by assertions_from
   assertions_are p =
-      ap (λ (y : Step). choose (count_right s 0 256 p) y (Refused 3 p))
-      (ap (λ (y : Step). then_step y (ended_at s)) (items_are X s (u16_at s p) (p + 2) []) ∙ step_then _ _ _ (λ A e. ended_is s (made s cis vis A) e))
-      ∙ list_then (count_right s 0 256 p) _ _ p
-      ∙ ap (λ (r : Reading (List (Item Assertion))). step (and_then r (λ A e. ended s (made s cis vis A) e)))
-      (sym (list_is s 0 256 (assertion_item (contents cis) (contents vis) s) p))
+      list_steps s (assertion_item (contents cis) (contents vis) s) (item_at ks sg s) (item_is X s) (made s cis vis) 0 max_assertions p
 
 -- ---- the tables of a policy whose constants and verbs are in order
 

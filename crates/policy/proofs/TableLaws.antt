@@ -1,12 +1,14 @@
 -- Tables that a loop fills: what is still to be put down, one turn on.
 use mathlib.Core.Path.{◌≡◌, refl, sym, ◌∙◌, ap}
+use Rattle.std.proofs.Common.{append_assoc}
 use mathlib.Core.Bool.{Bool, true, false}
 use mathlib.Core.List.{List, [], ◌∷◌, ◌++◌, map}
 use Prim.Native.Nat.{ℕ, zero, suc, ◌+◌, ◌-◌, ◌*◌, ◌≤◌, ◌<◌}
 use native.Mathlib.Numerals.{add-one}
 use native.Mathlib.Omega.{arith}
-use lib.ListN.{length, get_or, set, drop, replicate, length-replicate, length-map, length-append}
-use lib.Seq.{sets, sets-eq}
+use borrow.Rule.Slice.PartMut.{put_mid}
+use lib.ListN.{length, set, take, drop, replicate, length-replicate, length-map, length-append}
+use lib.Seq.{sets, sets-eq, drop-drop}
 use Rattle.model.specs.Lists.{each}
 use Rattle.model.specs.Bytes.{byte_at, u16_at, choose}
 use Rattle.model.specs.Readings.{item_end, assertion_end}
@@ -37,17 +39,21 @@ unfolding starts_at
 starts_length g zero p = refl
 starts_length g (suc k) p = ap suc (starts_length g k (g p))
 
-four : (r : List ℕ) → length r ≡ 4 → r ≡ get_or r 0 0 ∷ get_or r 1 0 ∷ get_or r 2 0 ∷ get_or r 3 0 ∷ []
-four [] h = absurd (omega arith)
-four (a ∷ []) h = absurd (omega arith)
-four (a ∷ b ∷ []) h = absurd (omega arith)
-four (a ∷ b ∷ c ∷ []) h = absurd (omega arith)
-four (a ∷ b ∷ c ∷ d ∷ []) h = refl
-four (a ∷ b ∷ c ∷ d ∷ e ∷ l) h = absurd (omega arith)
+-- one part of what is put down after the other
+sets_append : (t r rest : List ℕ) (j : ℕ) → sets t j (r ++ rest) ≡ sets (sets t j r) (j + length r) rest
+sets_append t [] rest j = let e : j ≡ j + 0 = omega arith in ap (λ (k : ℕ). sets t k rest) e
+sets_append t (x ∷ r) rest j =
+    let e : suc j + length r ≡ j + suc (length r) = omega arith in
+    sets_append (set t j x) r rest (suc j) ∙ ap (λ (k : ℕ). sets (sets (set t j x) (suc j) r) k rest) e
 
-sets_four : (t rest : List ℕ) (j k l m n a b c d : ℕ) → k ≡ suc j → l ≡ suc (suc j) → m ≡ suc (suc (suc j)) → n ≡ suc (suc (suc (suc j)))
-    → sets t j (a ∷ b ∷ c ∷ d ∷ rest) ≡ sets (set (set (set (set t j a) k b) l c) m d) n rest
-sets_four t rest j k l m n a b c d p q r s = rw (p, q, r, s)
+-- a part that is copied in is put down there
+part_put : (t r : List ℕ) (a k : ℕ) → a + k ≤ length t → length r ≡ k → put_mid a k t r ≡ sets t a r
+part_put t r a k h l =
+    let w : a + length r ≤ length t = omega arith in
+    sym (sets-eq r t a w
+    ∙ append_assoc (take a t) r (drop (a + length r) t)
+    ∙ ap (λ (n : ℕ). take a t ++ (r ++ drop (a + n) t)) l
+    ∙ ap (λ (x : List ℕ). take a t ++ (r ++ x)) (sym (drop-drop k a t)))
 
 one_less : (n i : ℕ) → i < n → n - i ≡ suc (n - (i + 1))
 one_less n i h = omega arith
@@ -65,20 +71,21 @@ module _ (g : ℕ → ℕ) where
   left_map f t n i at y x h d e = rw (one_less n i h, add-one, d, e)
 
   -- four numbers of each item
-  abbrev row_set : List ℕ → ℕ → List ℕ → List ℕ
-  row_set t j r = set (set (set (set t (4 * j + 4) (get_or r 0 0)) (4 * j + 5) (get_or r 1 0)) (4 * j + 6) (get_or r 2 0)) (4 * j + 7) (get_or r 3 0)
-
-  pub left_rows : (f : ℕ → List ℕ) (t : List ℕ) (n i at y : ℕ) (r : List ℕ) → i < n → y ≡ g at → r ≡ f at → length r ≡ 4
-      → sets t (4 * i + 4) (each (starts_at g (n - i) at) f) ≡ sets (row_set t i r) (4 * (i + 1) + 4) (each (starts_at g (n - (i + 1)) y) f)
+  pub left_rows : (f : ℕ → List ℕ) (t : List ℕ) (n i at y : ℕ) (r : List ℕ) (k : ℕ) → i < n → y ≡ g at → r ≡ f at → length r ≡ 4 → k ≡ 4
+      → 4 * i + 8 ≤ length t
+      → sets t (4 * i + 4) (each (starts_at g (n - i) at) f) ≡ sets (put_mid (4 * i + 4) k t r) (4 * (i + 1) + 4) (each (starts_at g (n - (i + 1)) y) f)
   unfolding starts_at
-  left_rows f t n i at y r h d e l =
+  left_rows f t n i at y r k h d e l m w =
       let rest = each (starts_at g (n - (i + 1)) (g at)) f in
-      let next = 4 * (i + 1) + 4 in
+      let q : 4 * i + 4 + length r ≡ 4 * (i + 1) + 4 = omega arith in
+      let b : 4 * i + 4 + k ≤ length t = omega arith in
+      let v : length r ≡ k = omega arith in
       ap (λ (k : ℕ). sets t (4 * i + 4) (each (starts_at g k at) f)) (one_less n i h)
-      ∙ ap (λ (q : List ℕ). sets t (4 * i + 4) (q ++ rest)) (sym e ∙ four r l)
-      ∙ sets_four t rest (4 * i + 4) (4 * i + 5) (4 * i + 6) (4 * i + 7) next (get_or r 0 0) (get_or r 1 0) (get_or r 2 0) (get_or r 3 0)
-      (omega arith) (omega arith) (omega arith) (omega arith)
-      ∙ ap (λ (z : ℕ). sets (row_set t i r) next (each (starts_at g (n - (i + 1)) z) f)) (sym d)
+      ∙ ap (λ (x : List ℕ). sets t (4 * i + 4) (x ++ rest)) (sym e)
+      ∙ sets_append t r rest (4 * i + 4)
+      ∙ ap (λ (j : ℕ). sets (sets t (4 * i + 4) r) j rest) q
+      ∙ ap (λ (x : List ℕ). sets x (4 * (i + 1) + 4) rest) (sym (part_put t r (4 * i + 4) k b v))
+      ∙ ap (λ (z : ℕ). sets (put_mid (4 * i + 4) k t r) (4 * (i + 1) + 4) (each (starts_at g (n - (i + 1)) z) f)) (sym d)
 
   -- everything is left
   pub all_starts : (t : List ℕ) (n at : ℕ) → sets t 0 (starts_at g (n - 0) at) ≡ sets t 0 (starts_at g n at)

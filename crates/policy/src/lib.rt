@@ -6,10 +6,11 @@ ghost use Rattle.model.specs.Bytes.{u16_at, got};
 ghost use Rattle.model.specs.Limits.{max_constants, max_verbs, max_assertions};
 ghost use Rattle.model.specs.Policies.{list_at, constant_item, verb_item, assertions_from, verbs_from, constants_from, read_policy};
 ghost use Rattle.slices.specs.Items.{constants_at, verbs_at};
+ghost use Rattle.slices.specs.Steps.{number_of};
 ghost use Rattle.wire.specs.Budget.{longest};
 ghost use Rattle.policy.specs.Index.{refusal, index_at, handed_out, label_of, label_part};
 
-use slices::Step;
+use slices::{Reason, Refusal};
 
 pub mod tables;
 
@@ -43,11 +44,11 @@ pub struct Index {
     pub signatures: [u8; tables::SIGNATURES],
 }
 
-fn refused(number: u8, place: usize) -> Index
-    ensures { result ≡ refusal number place }
+fn refused(why: Refusal) -> Index
+    ensures { result ≡ refusal (number_of why.reason) why.place }
 {
     Index {
-        answer: Answer::Refused(number, place),
+        answer: Answer::Refused(why.reason.number(), why.place),
         version: 0,
         constants: 0,
         verbs: 0,
@@ -107,8 +108,8 @@ fn with_verbs(policy: &[u8], second: usize, third: usize) -> Index
     let kinds = tables::kinds(policy, wire::u16_or(policy, limits::HEADER), FIRST_CONSTANT);
     let signatures = tables::signatures(policy, wire::u16_or(policy, second), second + 2);
     match assertions::assertions(&kinds, &signatures, policy, third) {
-        Step::Next(_) => accepted(policy, second, third, kinds, signatures),
-        Step::Refused(number, place) => refused(number, place),
+        Ok(_) => accepted(policy, second, third, kinds, signatures),
+        Err(why) => refused(why),
     }
 }
 
@@ -119,8 +120,8 @@ fn with_constants(policy: &[u8], second: usize) -> Index
     ensures { result ≡ handed_out (verbs_from policy.now (constants_at policy.now (u16_at policy.now 5) 7) second) }
 {
     match names::verbs::verbs(policy, second) {
-        Step::Next(third) => with_verbs(policy, second, third),
-        Step::Refused(number, place) => refused(number, place),
+        Ok(third) => with_verbs(policy, second, third),
+        Err(why) => refused(why),
     }
 }
 
@@ -130,8 +131,8 @@ fn headed(policy: &[u8]) -> Index
     ensures { result ≡ handed_out (constants_from policy.now) }
 {
     match names::constants::constants(policy, limits::HEADER) {
-        Step::Next(second) => with_constants(policy, second),
-        Step::Refused(number, place) => refused(number, place),
+        Ok(second) => with_constants(policy, second),
+        Err(why) => refused(why),
     }
 }
 
@@ -140,10 +141,10 @@ pub fn read(policy: &[u8]) -> Index
     ensures { result ≡ handed_out (read_policy policy.now) }
 {
     if !slices::version_there(policy, limits::POLICY_VERSIONS) {
-        return refused(1, 0);
+        return refused(Reason::Version.at(0));
     }
     if !slices::length_right(policy) {
-        return refused(2, limits::LENGTH_AT);
+        return refused(Reason::Length.at(limits::LENGTH_AT));
     }
     headed(policy)
 }
@@ -155,7 +156,7 @@ pub struct Part {
     pub to: usize,
 }
 
-// Where the label of the constant stands; an empty part at 0 where there is none.
+// Where the label of the constant stands; an empty part at 0 where there is none. A function of its own, since only so a contract speaks of the place.
 fn label_part(policy: &[u8], constant: usize) -> Part
     ensures { result ≡ label_part (handed_out (read_policy policy.now)) policy.now constant }
 {

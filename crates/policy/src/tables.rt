@@ -23,12 +23,10 @@ fn put_items(policy: &[u8], count: usize, from: usize, table: &mut [usize])
     requires { (count ≤ length table.old) × (from + 256 * count ≤ farthest) }
     ensures { table.new ≡ sets table.old 0 (starts_at (item_end policy.now) count from) }
 {
-    let mut i = 0;
     let mut at = from;
-    while i < count {
+    for i in 0..count {
         table[i] = at;
         at = at + 1 + wire::byte_or(policy, at);
-        i += 1;
     }
 }
 
@@ -37,12 +35,10 @@ fn put_assertions(policy: &[u8], count: usize, from: usize, table: &mut [usize])
     requires { (count ≤ length table.old) × (from + 65537 * count ≤ farthest) }
     ensures { table.new ≡ sets table.old 0 (starts_at (assertion_end policy.now) count from) }
 {
-    let mut i = 0;
     let mut at = from;
-    while i < count {
+    for i in 0..count {
         table[i] = at;
         at = at + 2 + wire::u16_or(policy, at);
-        i += 1;
     }
 }
 
@@ -51,12 +47,10 @@ fn put_issuers(policy: &[u8], count: usize, from: usize, table: &mut [usize])
     requires { (count ≤ length table.old) × (from + 65537 * count + 6 ≤ farthest) }
     ensures { table.new ≡ sets table.old 0 (map issuer_read_at (starts_at (assertion_end policy.now) count from)) }
 {
-    let mut i = 0;
     let mut at = from;
-    while i < count {
+    for i in 0..count {
         table[i] = at + assertions::ISSUER;
         at = at + 2 + wire::u16_or(policy, at);
-        i += 1;
     }
 }
 
@@ -66,41 +60,27 @@ fn put_kinds(policy: &[u8], count: usize, from: usize, table: &mut [u8])
     ensures { table.new
         ≡ sets table.old 0 (map (kind_of policy.now) (starts_at (item_end policy.now) count from)) }
 {
-    let mut i = 0;
     let mut at = from;
-    while i < count {
+    for i in 0..count {
         table[i] = wire::u8_or(policy, at + 1);
         at = at + 1 + wire::byte_or(policy, at);
-        i += 1;
     }
 }
 
 // The row of the verb at `at`: its arity and one, and the kinds of its parameters.
+#[tactic(auto, unfolding(crate::specs::Index::row_at, model::specs::Bytes::choose))]
 fn row(policy: &[u8], at: usize) -> [u8; ROW]
     requires { at + 4 ≤ farthest }
     ensures { result ≡ row_at policy.now at }
 {
-    let a = wire::byte_or(policy, at + 1);
-    if a == 0 {
-        return [1, 0, 0, 0];
+    let first = wire::u8_or(policy, at + 2);
+    let second = wire::u8_or(policy, at + 3);
+    match wire::byte_or(policy, at + 1) {
+        0 => [1, 0, 0, 0],
+        1 => [2, first, 0, 0],
+        2 => [3, first, second, 0],
+        _ => [4, first, second, wire::u8_or(policy, at + 4)],
     }
-    if a == 1 {
-        return [2, wire::u8_or(policy, at + 2), 0, 0];
-    }
-    if a == 2 {
-        return [
-            3,
-            wire::u8_or(policy, at + 2),
-            wire::u8_or(policy, at + 3),
-            0,
-        ];
-    }
-    [
-        4,
-        wire::u8_or(policy, at + 2),
-        wire::u8_or(policy, at + 3),
-        wire::u8_or(policy, at + 4),
-    ]
 }
 
 // The rows of `count` verbs from `from` on, after that of verb 0.
@@ -109,16 +89,10 @@ fn put_rows(policy: &[u8], count: usize, from: usize, table: &mut [u8])
     ensures { table.new
         ≡ sets table.old 4 (each (starts_at (item_end policy.now) count from) (row_at policy.now)) }
 {
-    let mut i = 0;
     let mut at = from;
-    while i < count {
-        let r = row(policy, at);
-        table[ROW * i + 4] = r[0];
-        table[ROW * i + 5] = r[1];
-        table[ROW * i + 6] = r[2];
-        table[ROW * i + 7] = r[3];
+    for i in 0..count {
+        table[ROW * i + 4..ROW * i + 8].copy_from_slice(&row(policy, at));
         at = at + 1 + wire::byte_or(policy, at);
-        i += 1;
     }
 }
 

@@ -1,5 +1,4 @@
 pub mod IssuerSteps
-pub mod RequestSteps
+pub mod IssuerLaws
 pub mod KindLaws
 pub mod RequestLaws
-pub mod IssuerLaws

@@ -11,8 +11,7 @@ use native.Mathlib.Omega.{arith}
 use lib.ListN.{length, get_or}
 use lib.Seq.{ext_get_or}
 use lib.Dec.{T, eqb, ltb}
-use borrow.Author.Tests.{eq-eqb, ne_eqb, lt-ltb}
-use Rattle.model.specs.Limits.{version, max_day, max_depth, first_node_at, header_bytes, principal}
+use Rattle.model.specs.Limits.{version, max_day, max_depth, first_node_at, header_bytes, length_at, principal}
 use Rattle.model.specs.Lists.{each, member, apart}
 use Rattle.model.specs.Syntax as syntax
 use Rattle.model.specs.Syntax.{Expr, var, Constraint, Constant, Verb, Node, Nodes, says, test, all_of, any_of, non, exists, end, more, vars_of, vars_in}
@@ -28,15 +27,19 @@ use Rattle.model.proofs.ListFacts.{and_of, each_in, member_of, member_in}
 use Rattle.model.proofs.BindingFacts.{at_variable, same_variables}
 use Rattle.wire.proofs.Reading.{choose_true, choose_false}
 use Rattle.kinds.specs.Cells.{nothing}
-use Rattle.kinds.specs.declared.Fit.{Fit}
 use Rattle.kinds.proofs.Model.{fits_low, kind_cell}
 use Rattle.phrases.specs.Tables.{Tables}
 use Rattle.phrases.specs.Marks.{none, marked}
 use Rattle.phrases.proofs.Sets.{marked_append, marked_length, mark_is}
 use Rattle.nodes.specs.Tree.{tree_in}
-use Rattle.safety.specs.Safety.{judged_safe, judged_unsafe, judged_in}
-use Rattle.request.specs.Requests.{refusal, marks, handed_out, cell_kind, cell_kinds, accepted_in, ended_in, whole_in, request_in}
-use Rattle.nodes.specs.declared.Got.{Got}
+use Rattle.std.specs.Prelude.{◌||◌, if◌then◌else◌, Some, None, Result, Ok, Err}
+use Rattle.slices.specs.Steps.{Next, Refused, number_of}
+use Rattle.slices.specs.Lists.{headed_at}
+use Rattle.slices.specs.declared.Refusal.{Refusal}
+use Rattle.safety.specs.Safety.{judged_in}
+use Rattle.safety.specs.declared.Judged.{Judged}
+use Rattle.request.specs.Requests.{said, answered, marks, handed_out, cell_kind, cell_kinds, accepted_in, ended_in, whole_in}
+use Rattle.nodes.specs.declared.Reached.{Reached}
 use Rattle.request.specs.declared.Request.{Request}
 use Rattle.nodes.proofs.TreeLaws.{by_bool, tree_is}
 use Rattle.nodes.proofs.ReadLaws.{State, state_fits, Reads, reads_node, state_none}
@@ -108,38 +111,28 @@ module _ (cs : List Constant) (vs : List Verb) (n : Node) (t : List ℕ) (S : St
       (Memᴰ.append_cases (free n) m)
 
   kind_at : (v : ℕ) → v < 8 → cell_kind t (marked (binders n) (marked (free n) none)) v ≡ kind_of (demands_in n vs).places v
-  unfolding cell_kind
   kind_at v l = rw (← marked_append (free n) (binders n) none, mark_is (free n ++ binders n) v l) (go (member v (free n ++ binders n)) refl)
     where
       ps : List (ℕ × Expr)
       ps = (demands_in n vs).places
 
       cell : (kind_of ps v ≡ 0 → ⊥) → get_or t v 0 ≡ kind_of ps v + 7
-      cell h = subst (λ (f : Fit). get_or f.of v 0 ≡ kind_of ps v + 7) S.fed
-          (kind_cell cs (demands_in n vs) S.regular S.asks S.alike (ap (λ (f : Fit). f.ok) S.fed) v h)
+      cell h = kind_cell cs (demands_in n vs) S.regular S.asks S.alike t S.fed v h
 
-      go : (b : Bool) → member v (free n ++ binders n) ≡ b → choose b (choose (ltb 7 (get_or t v 0)) (get_or t v 0 - 7) 0) 0 ≡ kind_of ps v
+      go : (b : Bool) → member v (free n ++ binders n) ≡ b → (if b then get_or t v 0 - 7 else 0) ≡ kind_of ps v
       go true e =
           let p = placed v (member_of v (free n ++ binders n) (true_T _ e)) in
           let h : kind_of ps v ≡ 0 → ⊥ = kind_some ps v p.0 (λ q m. (S.regular.places q m).0) p.1 in
           let c = cell h in
-          choose_true _ 0 refl ∙ choose_true (get_or t v 0 - 7) 0 (lt-ltb 7 (get_or t v 0) (omega arith)) ∙ omega arith
+          omega arith
       go false e =
-          choose_false _ 0 refl
-          ∙ sym (kind_none ps v (λ k m. not_member v (free n ++ binders n) e
+          sym (kind_none ps v (λ k m. not_member v (free n ++ binders n) e
           (⊎_elim (Memᴰ.append_left _) (Memᴰ.append_right (free n)) (place_used vs n v k m))))
 
   pub kinds_are_law : cell_kinds t (marked (binders n) (marked (free n) none)) ≡ map (kind_of (demands_in n vs).places) variables
   kinds_are_law = same_variables (cell_kind t (marked (binders n) (marked (free n) none))) (kind_of (demands_in n vs).places) kind_at
 
 -- ---- the answer
-
-module _ (vs : List Verb) where
-  handed_choose : (b : Bool) (x y : Reading syntax.Request) (u v : Request) → u ≡ handed_out vs x → v ≡ handed_out vs y
-      → choose b u v ≡ handed_out vs (choose b x y)
-  unfolding choose
-  handed_choose true x y u v p q = p
-  handed_choose false x y u v p q = q
 
 module _ {cs : List Constant} {vs : List Verb} {ks sg : List ℕ} (X : Tables cs vs ks sg) (s : List ℕ) where
   abbrev node : Node
@@ -150,70 +143,70 @@ module _ {cs : List Constant} {vs : List Verb} {ks sg : List ℕ} (X : Tables cs
     low : Small node
     low = node_small vs node sound (fits_low cs (demands_in node vs) S.regular (true_T _ (state_fits cs t (demands_in node vs) S)))
 
-    judged_node : judged_in (tree_in sg s max_depth first_node_at) ≡ choose (safe_request node)
-        (judged_safe (marked (free node) none) (marked (binders node) (marked (free node) none))) judged_unsafe
+    abbrev judged : Judged
+    judged = record { free = marked (free node) none; used = marked (binders node) (marked (free node) none) }
+
+    judged_node : judged_in (tree_in sg s max_depth first_node_at) ≡ (if safe_request node then Some judged else None)
     judged_node = ap judged_in (tree_is X s max_depth first_node_at) ∙ judged_is node low
 
-    accepted_is : accepted_in s (judged_in (tree_in sg s max_depth first_node_at)) t ≡ handed_out vs (safely cs vs s (request_of cs vs s) e)
-    unfolding accepted_in safely handed_out
+    accepted_is : said (accepted_in ks sg s (judged_in (tree_in sg s max_depth first_node_at)) t) ≡ answered vs (safely cs vs s (request_of cs vs s) e)
+    unfolding safely handed_out
     accepted_is =
         by_bool (safe_request node)
         (λ o. rw (
-          judged_node ∙ choose_true _ _ o,
+          judged_node,
           choose_true (got (request_of cs vs s) e) (refused 7 first_node_at) o,
+          o,
           ← kinds_are_law cs vs node t S sound o,
           ← frees_are (free node),
-        ) (choose_true _ _ refl))
-        (λ o. rw (judged_node ∙ choose_false _ _ o, choose_false (got (request_of cs vs s) e) (refused 7 first_node_at) o) (choose_false _ _ refl))
+        ))
+        (λ o. rw (judged_node, choose_false (got (request_of cs vs s) e) (refused 7 first_node_at) o, o))
 
-  ended_is : (g : Got) (x : Reading Demands) → Reads cs g x → check_node cs vs s max_depth no_demands first_node_at ≡ x
-      → ended_in sg s g ≡ handed_out vs (and_then x (λ D p. and_then (ended s (request_of cs vs s) p) (safely cs vs s)))
-  unfolding ended_in and_then ended handed_out
-  ended_is g (got D e) r q =
+  ended_is : (g : Result Reached Refusal) (x : Reading Demands) → Reads cs g x → check_node cs vs s max_depth no_demands first_node_at ≡ x
+      → said (ended_in ks sg s g) ≡ answered vs (and_then x (λ D p. and_then (ended s (request_of cs vs s) p) (safely cs vs s)))
+  unfolding and_then ended
+  ended_is (Ok g) (got D e) r q =
       let c = node_checked vs cs s max_depth no_demands first_node_at D e q in
-      let S : State cs g.of (demands_in node vs) = subst (State cs g.of) c.asked r.2 in
-      choose_true _ _ (eq-eqb g.no 0 r.0)
-      ∙ ap (λ (p : ℕ). choose (eqb p (length s)) (accepted_in s (judged_in (tree_in sg s max_depth first_node_at)) g.of) (refusal 3 p)) r.1
-      ∙ by_bool (eqb e (length s))
-      (λ o. rw (
-        choose_true (accepted_in s (judged_in (tree_in sg s max_depth first_node_at)) g.of) (refusal 3 e) o,
-        choose_true (got (request_of cs vs s) e) (refused 3 e) o,
-      ) (accepted_is e g.of S c.sound))
-      (λ o. rw (
-        choose_false (accepted_in s (judged_in (tree_in sg s max_depth first_node_at)) g.of) (refusal 3 e) o,
-        choose_false (got (request_of cs vs s) e) (refused 3 e) o,
-      ))
-  ended_is g (refused n p) r q = choose_false _ _ (ne_eqb g.no 0 (λ z. r.2 (sym r.0 ∙ z))) ∙ rw (r.0, r.1)
+      let S : State cs g.cells (demands_in node vs) = subst (State cs g.cells) c.asked r.1 in
+      rw r.0
+      (by_bool (eqb e (length s))
+      (λ o. rw (choose_true (got (request_of cs vs s) e) (refused 3 e) o, o) (accepted_is e g.cells S c.sound))
+      (λ o. rw (choose_false (got (request_of cs vs s) e) (refused 3 e) o, o)))
+  ended_is (Err g) (refused n p) r q = rw (r.0, r.1)
+  ended_is (Ok g) (refused n p) r q = absurd r
+  ended_is (Err g) (got D e) r q = absurd r
 
-  whole_is : whole_in ks sg s ≡ handed_out vs (request_from cs vs s)
-  unfolding whole_in request_from handed_out
+  two : (a b : Bool) (x y : Result Request Refusal) (u v : Reading syntax.Request) → said x ≡ answered vs u → said y ≡ answered vs v
+      → said (if a || b then x else y) ≡ answered vs (choose a u (choose b u v))
+  unfolding choose
+  two true b x y u v p q = p
+  two false true x y u v p q = p
+  two false false x y u v p q = q
+
+  whole_is : said (whole_in ks sg s) ≡ answered vs (request_from cs vs s)
+  unfolding whole_in request_from
   whole_is =
-      handed_choose vs (ltb (length s) first_node_at) _ _ _ _ refl
-      (handed_choose vs (ltb max_day (u32_at s header_bytes)) _ _ _ _ refl
-      (ended_is _ (check_node cs vs s max_depth no_demands first_node_at) (reads_node X s max_depth first_node_at nothing no_demands (state_none X s)) refl))
+      two (ltb (length s) first_node_at) (ltb max_day (u32_at s header_bytes)) _ _ (refused 3 header_bytes) _ refl
+      (ended_is _ (check_node cs vs s max_depth no_demands first_node_at) (reads_node X s max_depth first_node_at nothing no_demands (state_none X s)) refl)
 
-  -- THE LAW
-  pub request_is : request_in ks sg s ≡ handed_out vs (read_request cs vs s)
-  unfolding request_in computed_request headed handed_out
-  request_is = rw (plainly cs vs s) (handed_choose vs (version_there version s) _ _ _ _ (handed_choose vs (length_right s) _ _ _ _ whole_is refl) refl)
+  -- THE LAW, where the header is refused, and where it is in order
+  pub header_refused : (r : Refusal) → Refused (number_of r.reason) r.place ≡ headed_at version s → said (Err r) ≡ answered vs (read_request cs vs s)
+  unfolding headed_at computed_request headed choose
+  header_refused r = rw (plainly cs vs s) (go (version_there version s) (length_right s) (request_from cs vs s))
+    where
+      go : (a b : Bool) (x : Reading syntax.Request)
+          → Refused (number_of r.reason) r.place ≡ (if a then (if b then Next header_bytes else Refused 2 length_at) else Refused 1 0)
+          → said (Err r) ≡ answered vs (choose a (choose b x (refused 2 length_at)) (refused 1 0))
+      go true true x h = cc
+      go true false x h = cc
+      go false b x h = cc
 
--- ---- as the code takes it
-
-abbrev pub Means : List ℕ → List ℕ → List ℕ → Request → Type 0
-Means ks sg s z = (cs : List Constant) (vs : List Verb) → Tables cs vs ks sg → z ≡ handed_out vs (read_request cs vs s)
-
-module _ (ks sg s : List ℕ) (z : Request) where
-  pub means_version : version_there version s ≡ false → z ≡ refusal 1 0 → Means ks sg s z
-  unfolding request_in
-  means_version o h cs vs X = h ∙ sym (choose_false _ _ o) ∙ request_is X s
-
-  pub means_length : version_there version s ≡ true → length_right s ≡ false → z ≡ refusal 2 1 → Means ks sg s z
-  unfolding request_in
-  means_length o p h cs vs X = h ∙ sym (choose_true _ _ o ∙ choose_false _ _ p) ∙ request_is X s
-
-  pub means_whole : version_there version s ≡ true → length_right s ≡ true → z ≡ whole_in ks sg s → Means ks sg s z
-  unfolding request_in
-  means_whole o p h cs vs X = h ∙ sym (choose_true _ _ o ∙ choose_true _ _ p) ∙ request_is X s
-
-pub not_accepted : {A : Type 0} (z : Request) (n p : ℕ) → z ≡ refusal n p → (n ≡ 0 → ⊥) → z.refusal ≡ 0 → A
-not_accepted z n p h o e = absurd (o (ap (λ (r : Request). r.refusal) (sym h) ∙ e))
+  pub header_right : (p : ℕ) → Next p ≡ headed_at version s → said (whole_in ks sg s) ≡ answered vs (read_request cs vs s)
+  unfolding headed_at computed_request headed choose
+  header_right p = rw (plainly cs vs s) (go (version_there version s) (length_right s))
+    where
+      go : (a b : Bool) → Next p ≡ (if a then (if b then Next header_bytes else Refused 2 length_at) else Refused 1 0)
+          → said (whole_in ks sg s) ≡ answered vs (choose a (choose b (request_from cs vs s) (refused 2 length_at)) (refused 1 0))
+      go true true h = whole_is
+      go true false h = cc
+      go false b h = cc

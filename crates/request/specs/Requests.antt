@@ -1,72 +1,67 @@
 -- What the request reader hands out.
-use Rattle.std.specs.Prelude.{ℕ, ◌-◌, List, map, cond, length, get_or, eqb, ltb}
-use Rattle.model.specs.Limits.{version, max_day, max_depth, first_node_at, header_bytes, length_at}
+use Rattle.std.specs.Prelude.{ℕ, ◌-◌, List, map, cond, length, get_or, ◌==◌, nat_lt, ◌||◌, if◌then◌else◌, Option, Some, None, Result, Ok, Err}
+use Rattle.model.specs.Limits.{max_day, max_depth, first_node_at, header_bytes}
 use Rattle.model.specs.Lists.{member}
 use Rattle.model.specs.Syntax as syntax
 use Rattle.model.specs.Syntax.{Verb}
 use Rattle.model.specs.Kinds.{demands_in, kind_of, variables}
 use Rattle.model.specs.Requests.{free}
-use Rattle.model.specs.Bytes.{u32_at, choose, Reading, got, refused}
-use Rattle.model.specs.Policies.{version_there, length_right}
+use Rattle.model.specs.Bytes.{u32_at, Reading, got, refused}
 use Rattle.kinds.specs.Cells.{nothing}
-use Rattle.phrases.specs.Marks.{none}
+use Rattle.slices.specs.Steps.{number_of}
+use Rattle.slices.specs.declared.Refusal.{Refusal}
+use Rattle.slices.specs.declared.Reason.TheVariants as reasons
 use Rattle.nodes.specs.Tree.{tree_in}
 use Rattle.nodes.specs.Nodes.{read_in}
 use Rattle.safety.specs.Safety.{judged_in}
-use Rattle.nodes.specs.declared.Got.{Got}
+use Rattle.nodes.specs.declared.Reached.{Reached}
 use Rattle.safety.specs.declared.Judged.{Judged}
 use Rattle.request.specs.declared.Request.{Request}
 
 -- ---- THE PROMISE: the model's answer, as the code gives it
 
--- a refusal's number and place, and nothing else
-abbrev pub refusal : ℕ → ℕ → Request
-refusal n p = record { refusal = n; place = p; today = 0; kinds = none; free = none }
-
 -- 1 for each of the eight variables that is in the list
 abbrev pub marks : List ℕ → List ℕ
 marks vs = map (λ v. cond (member v vs) 1 0) variables
 
--- accepted (refusal 0): today, the kind of each variable by its first place in a fact, and which variables are free
-unfoldable pub handed_out : List Verb → Reading syntax.Request → Request
-handed_out vs (got q e) = record {
-  refusal = 0;
-  place = 0;
-  today = q.today;
-  kinds = map (kind_of (demands_in q.node vs).places) variables;
-  free = marks (free q.node);
-}
-handed_out vs (refused n p) = refusal n p
+-- today, the kind of each variable by its first place in a fact, and which variables are free
+unfoldable pub handed_out : List Verb → syntax.Request → Request
+handed_out vs q = record { today = q.today; kinds = map (kind_of (demands_in q.node vs).places) variables; free = marks (free q.node) }
+
+-- that of an accepted request, or a refusal's number and place
+abbrev pub answered : List Verb → Reading syntax.Request → Result Request (ℕ × ℕ)
+answered vs (got q e) = Ok (handed_out vs q)
+answered vs (refused n p) = Err (n, p)
+
+-- what the code's result says
+abbrev pub said : Result Request Refusal → Result Request (ℕ × ℕ)
+said (Ok r) = Ok r
+said (Err r) = Err (number_of r.reason, r.place)
 
 -- ---- the same in the code's order, by the two tables
 
--- the kind that a variable's cell stands for, if the variable is used
-unfoldable pub cell_kind : List ℕ → List ℕ → ℕ → ℕ
-cell_kind t used v = choose (eqb (get_or used v 0) 1) (choose (ltb 7 (get_or t v 0)) (get_or t v 0 - 7) 0) 0
+-- the kind that a variable's cell stands for, if the variable is used: a cell up to 7 stands for none
+abbrev pub cell_kind : List ℕ → List ℕ → ℕ → ℕ
+cell_kind t used v = if get_or used v 0 == 1 then get_or t v 0 - 7 else 0
 
 abbrev pub cell_kinds : List ℕ → List ℕ → List ℕ
 cell_kinds t used = map (cell_kind t used) variables
 
-unfoldable pub accepted_in : List ℕ → Judged → List ℕ → Request
-accepted_in s j t =
-    choose j.safe
-    (record { refusal = 0; place = 0; today = u32_at s header_bytes; kinds = cell_kinds t j.used; free = j.free })
-    (refusal 7 first_node_at)
-
--- nothing is left over
-unfoldable pub ended_in : List ℕ → List ℕ → Got → Request
-ended_in sg s g =
-    choose (eqb g.no 0)
-    (choose (eqb g.at (length s)) (accepted_in s (judged_in (tree_in sg s max_depth first_node_at)) g.of) (refusal 3 g.at))
-    (refusal g.no g.at)
-
 module _ (ks sg s : List ℕ) where
-  -- today, one node
-  unfoldable pub whole_in : Request
-  whole_in =
-      choose (ltb (length s) first_node_at) (refusal 3 header_bytes)
-      (choose (ltb max_day (u32_at s header_bytes)) (refusal 3 header_bytes)
-      (ended_in sg s (read_in ks sg s max_depth first_node_at nothing)))
+  -- safe, or not
+  abbrev pub accepted_in : Option Judged → List ℕ → Result Request Refusal
+  accepted_in (Some j) t = Ok (record { today = u32_at s header_bytes; kinds = cell_kinds t j.used; free = j.free })
+  accepted_in None t = Err (record { reason = reasons.UnsafeRequest; place = first_node_at })
 
-  unfoldable pub request_in : Request
-  request_in = choose (version_there version s) (choose (length_right s) whole_in (refusal 2 length_at)) (refusal 1 0)
+  -- nothing is left over
+  abbrev pub ended_in : Result Reached Refusal → Result Request Refusal
+  ended_in (Ok r) =
+      if r.at == length s then accepted_in (judged_in (tree_in sg s max_depth first_node_at)) r.cells
+      else Err (record { reason = reasons.Form; place = r.at })
+  ended_in (Err r) = Err r
+
+  -- today, one node
+  unfoldable pub whole_in : Result Request Refusal
+  whole_in =
+      if nat_lt (length s) first_node_at || nat_lt max_day (u32_at s header_bytes) then Err (record { reason = reasons.Form; place = header_bytes })
+      else ended_in (read_in ks sg s max_depth first_node_at nothing)

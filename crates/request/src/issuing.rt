@@ -1,4 +1,5 @@
 // The issuers of a request's says nodes, as marks over all constants.
+// A loop takes what a call gives into a local of its own first: the check covers no array that is laid where an argument was.
 ghost use Rattle.std.specs.Prelude.{◌≡◌, ◌≤◌, ◌<◌, length, set};
 ghost use Rattle.model.specs.Limits.{principal};
 ghost use Rattle.model.specs.Values.{of_kind};
@@ -16,99 +17,84 @@ use nodes::tree::Shape;
 
 const PRINCIPAL: u8 = limits::PRINCIPAL as u8;
 
+// A set of constants: 1 for each that is in it.
+pub type Marks = [u8; CONSTANTS];
+
 // With constant c.
-fn with_constant(m: [u8; CONSTANTS], c: usize) -> [u8; CONSTANTS]
+#[tactic(auto, using(crate::proofs::IssuerSteps::set_past))]
+fn with_constant(m: Marks, c: usize) -> Marks
     ensures { result ≡ set m c 1 }
 {
+    let mut marks = m;
     if c < CONSTANTS {
-        let mut u = m;
-        u[c] = 1;
-        return u;
+        marks[c] = 1;
     }
-    m
+    marks
 }
 
 // "all the policy's principals join"
-fn with_principals(ks: &[u8], m: [u8; CONSTANTS]) -> [u8; CONSTANTS]
+fn with_principals(ks: &[u8], m: Marks) -> Marks
     ensures { result ≡ marked (of_kind principal 0 (constants_by ks.now)) m }
 {
-    let mut u = m;
-    let mut c = 0;
-    while c < ks.len() {
-        if ks[c] == PRINCIPAL {
-            let w = with_constant(u, c);
-            u = w;
-            c += 1;
-            continue;
+    let mut marks = m;
+    for (c, kind) in ks.iter().enumerate() {
+        if *kind == PRINCIPAL {
+            let joined = with_constant(marks, c);
+            marks = joined;
         }
-        c += 1;
     }
-    u
+    marks
 }
 
 // With the issuer at p: a constant, or a variable.
-fn with_issuer(ks: &[u8], s: &[u8], p: usize, m: [u8; CONSTANTS]) -> [u8; CONSTANTS]
+#[tactic(auto, using(crate::proofs::IssuerSteps::issuer_steps))]
+fn with_issuer(ks: &[u8], s: &[u8], p: usize, m: Marks) -> Marks
     requires { p ≤ farthest }
     ensures { result ≡ marked (joining (world_by ks.now) (expr_at s.now p)) m }
 {
     let x = wire::u16_or(s, p);
     if x == limits::TODAY {
-        return m;
+        m
+    } else if x < limits::FIRST_VARIABLE {
+        with_constant(m, x)
+    } else {
+        with_principals(ks, m)
     }
-    if x < limits::FIRST_VARIABLE {
-        return with_constant(m, x);
-    }
-    with_principals(ks, m)
 }
 
 // With the issuers of the node at `at`, which may hold others d - 1 deep.
 #[cycle(node_parts)]
-pub fn node(
-    ks: &[u8],
-    sg: &[u8],
-    s: &[u8],
-    d: usize,
-    at: usize,
-    m: [u8; CONSTANTS],
-) -> [u8; CONSTANTS]
+#[tactic(auto, using(crate::proofs::IssuerSteps::node_steps))]
+pub fn node(ks: &[u8], sg: &[u8], s: &[u8], d: usize, at: usize, m: Marks) -> Marks
     requires { length s.now ≤ longest }
     ensures { result ≡ marked (issuers (tree_in sg.now s.now d at) (world_by ks.now)) m }
 {
-    if d == 0 {
-        return m;
-    }
-    if s.len() <= at {
+    if d == 0 || s.len() <= at {
         return m;
     }
     match tree::shape_at(s, at) {
         Shape::Says => with_issuer(ks, s, at + 1, m),
-        Shape::Test => m,
-        Shape::All => parts(ks, sg, s, d - 1, wire::byte_or(s, at + 1), at + 2, m),
-        Shape::Any => parts(ks, sg, s, d - 1, wire::byte_or(s, at + 1), at + 2, m),
+        Shape::All | Shape::Any => parts(ks, sg, s, d - 1, wire::byte_or(s, at + 1), at + 2, m),
         Shape::Not => node(ks, sg, s, d - 1, at + 1, m),
         Shape::Exists => node(ks, sg, s, d - 1, at + 2, m),
-        Shape::Nothing => m,
+        Shape::Test | Shape::Nothing => m,
     }
 }
 
 // And of n nodes from `at` on.
 #[cycle(node_parts)]
-fn parts(
-    ks: &[u8],
-    sg: &[u8],
-    s: &[u8],
-    d: usize,
-    n: usize,
-    at: usize,
-    m: [u8; CONSTANTS],
-) -> [u8; CONSTANTS]
-    requires { (length s.now ≤ longest) × (n < 256) }
+#[tactic(auto, using(crate::proofs::IssuerSteps::node_steps))]
+fn parts(ks: &[u8], sg: &[u8], s: &[u8], d: usize, n: usize, at: usize, m: Marks) -> Marks
+    requires { length s.now ≤ longest }
     ensures { result ≡ marked (issuers_all (nodes_by (tree_in sg.now s.now d) (end_in sg.now s.now d) n at)
         (world_by ks.now)) m }
 {
-    if n == 0 {
-        return m;
+    let mut next = at;
+    let mut u = m;
+    for _ in 0..n {
+        let more = node(ks, sg, s, d, next, u);
+        u = more;
+        next = tree::node_end(sg, s, d, next);
     }
-    let u = node(ks, sg, s, d, at, m);
-    parts(ks, sg, s, d, n - 1, tree::node_end(sg, s, d, at), u)
+    u
 }

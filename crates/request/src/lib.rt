@@ -1,7 +1,7 @@
-// The request reader: accepted, with today, the kinds of its variables and which of them are free; or refusal 1, 2, 3, 5 or 7 with its place.
+// The request reader: today, the kinds of the variables and which of them are free; or refusal 1, 2, 3, 5 or 7 with its place.
 #![tactic(auto)]
 
-ghost use Rattle.std.specs.Prelude.{◌≡◌, List, cond, ℕ, ◌≤◌, ◌<◌, length, get_or};
+ghost use Rattle.std.specs.Prelude.{◌≡◌, List, cond, ℕ, ◌≤◌, ◌<◌, length, get_or, IfOk};
 ghost use Rattle.model.specs.Limits.{max_depth, first_node_at};
 ghost use Rattle.model.specs.Lists.{member};
 ghost use Rattle.model.specs.Syntax.{Constant, Verb, World};
@@ -10,140 +10,81 @@ ghost use Rattle.model.specs.Readings.{node_at};
 ghost use Rattle.model.specs.Nodes.{read_request};
 ghost use Rattle.phrases.specs.Tables.{Tables};
 ghost use Rattle.wire.specs.Budget.{longest};
-ghost use Rattle.nodes.specs.Tree.{tree_in};
-ghost use Rattle.safety.specs.Safety.{judged_in};
-ghost use Rattle.request.specs.Requests.{refusal, handed_out, cell_kind, cell_kinds, accepted_in, ended_in, whole_in};
+ghost use Rattle.request.specs.Requests.{said, answered, cell_kind, cell_kinds, whole_in};
 
 pub mod issuing;
 
+use kinds::Cells;
 use limits::{DEPTH, FIRST_NODE, HEADER, VARIABLES};
-use nodes::Got;
+use phrases::marks::Marks;
+use slices::{Reason, Refusal};
 
-// What a request asks for, or why it is refused.
+// What a request asks for.
 #[derive(Clone, Copy)]
 pub struct Request {
-    // 0: accepted
-    pub refusal: u8,
-    pub place: usize,
     pub today: usize,
     // the kind of each variable, 0 where it has no place in a fact
     pub kinds: [u8; VARIABLES],
-    // 1 for each free variable
-    pub free: [u8; VARIABLES],
-}
-
-// Refusal n at place p, and nothing else.
-fn refused(n: u8, p: usize) -> Request
-    ensures { result ≡ refusal n p }
-{
-    Request {
-        refusal: n,
-        place: p,
-        today: 0,
-        kinds: [0, 0, 0, 0, 0, 0, 0, 0],
-        free: [0, 0, 0, 0, 0, 0, 0, 0],
-    }
+    // the free variables
+    pub free: Marks,
 }
 
 // What a kind's term is more than the kind.
 const NO_KIND: u8 = kinds::ANY_PRINCIPAL - 1;
 
 // The kind that a variable's cell stands for, if the variable is used.
-fn kind_in(t: [u8; VARIABLES], used: [u8; VARIABLES], v: usize) -> u8
+fn kind_in(t: Cells, used: Marks, v: usize) -> u8
     requires { v < 8 }
     ensures { result ≡ cell_kind t used v }
 {
     if used[v] == 1 {
-        if NO_KIND < t[v] {
-            return t[v] - NO_KIND;
-        }
+        t[v].saturating_sub(NO_KIND)
+    } else {
+        0
     }
-    0
 }
 
 // The same for all eight.
-fn kinds_in(t: [u8; VARIABLES], used: [u8; VARIABLES]) -> [u8; VARIABLES]
+fn kinds_in(t: Cells, used: Marks) -> [u8; VARIABLES]
     ensures { result ≡ cell_kinds t used }
 {
-    [
-        kind_in(t, used, 0),
-        kind_in(t, used, 1),
-        kind_in(t, used, 2),
-        kind_in(t, used, 3),
-        kind_in(t, used, 4),
-        kind_in(t, used, 5),
-        kind_in(t, used, 6),
-        kind_in(t, used, 7),
-    ]
-}
-
-// "7 comes last". The cells t tell the variables' kinds.
-fn safely(sg: &[u8], s: &[u8], t: [u8; VARIABLES]) -> Request
-    requires { length s.now ≤ longest }
-    ensures { result ≡ accepted_in s.now (judged_in (tree_in sg.now s.now max_depth first_node_at)) t }
-{
-    let j = safety::judge(sg, s);
-    if j.safe {
-        let f = j.free;
-        let u = j.used;
-        let k = kinds_in(t, u);
-        return Request {
-            refusal: 0,
-            place: 0,
-            today: wire::u32_or(s, HEADER),
-            kinds: k,
-            free: f,
-        };
+    let mut kinds = [0; VARIABLES];
+    for v in 0..VARIABLES {
+        kinds[v] = kind_in(t, used, v);
     }
-    refused(7, FIRST_NODE)
+    kinds
 }
 
-// After the node: "bytes left over".
-fn ended(sg: &[u8], s: &[u8], g: Got) -> Request
-    requires { length s.now ≤ longest }
-    ensures { result ≡ ended_in sg.now s.now g }
-{
-    let p = g.at;
-    let t = g.of;
-    if g.no == 0 {
-        if p == s.len() {
-            return safely(sg, s, t);
-        }
-        return refused(3, p);
-    }
-    refused(g.no, p)
-}
-
-// Today, one node, nothing left over.
-fn whole(ks: &[u8], sg: &[u8], s: &[u8]) -> Request
+// Today, one node, nothing left over; "7 comes last".
+#[tactic(auto, unfolding(crate::specs::Requests::whole_in))]
+fn whole(ks: &[u8], sg: &[u8], s: &[u8]) -> Result<Request, Refusal>
     requires { length s.now ≤ longest }
     ensures { result ≡ whole_in ks.now sg.now s.now }
 {
-    if s.len() < FIRST_NODE {
-        return refused(3, HEADER);
+    if s.len() < FIRST_NODE || limits::LAST_DAY < wire::u32_at(s, HEADER) {
+        return Err(Reason::Form.at(HEADER));
     }
-    if limits::LAST_DAY < wire::u32_at(s, HEADER) {
-        return refused(3, HEADER);
+    let node = nodes::node(ks, sg, s, DEPTH, FIRST_NODE, [0, 1, 2, 3, 4, 5, 6, 7])?;
+    if node.at != s.len() {
+        return Err(Reason::Form.at(node.at));
     }
-    ended(
-        sg,
-        s,
-        nodes::node(ks, sg, s, DEPTH, FIRST_NODE, [0, 1, 2, 3, 4, 5, 6, 7]),
-    )
+    let judged = safety::judge(sg, s).ok_or(Reason::UnsafeRequest.at(FIRST_NODE))?;
+    let kinds = kinds_in(node.cells, judged.used);
+    let free = judged.free;
+    Ok(Request {
+        today: wire::u32_or(s, HEADER),
+        kinds,
+        free,
+    })
 }
 
 // The request s under a policy with the kinds ks of its constants and the rows sg of its verbs (crate phrases, specs/Tables).
-pub fn read(ks: &[u8], sg: &[u8], s: &[u8]) -> Request
+pub fn read(ks: &[u8], sg: &[u8], s: &[u8]) -> Result<Request, Refusal>
     ensures meant { (cs : List Constant) (vs : List Verb) → Tables cs vs ks.now sg.now
-        → result ≡ handed_out vs (read_request cs vs s.now) }
-    ensures short { result.refusal ≡ 0 → length s.now ≤ longest }
+        → said result ≡ answered vs (read_request cs vs s.now) }
+    ensures short { IfOk result (λ _. length s.now ≤ longest) }
 {
-    if !slices::version_there(s, limits::VERSION) {
-        return refused(1, 0);
-    }
-    if !slices::length_right(s) {
-        return refused(2, limits::LENGTH_AT);
-    }
+    slices::lists::headed(s, limits::VERSION)?;
     whole(ks, sg, s)
 }
 

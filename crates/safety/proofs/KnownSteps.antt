@@ -1,134 +1,125 @@
--- Known variables, one step on, as the code takes it.
-use mathlib.Core.Path.{◌≡◌, refl, ◌∙◌}
-use mathlib.Core.Bool.{true, false}
-use mathlib.Core.List.{List}
-use Prim.Native.Nat.{ℕ, zero, suc, ◌+◌, ◌-◌, ◌≤◌, ◌<◌}
-use lib.ListN.{length, get_or}
+-- Known variables, one step on.
+use Rattle.std.specs.Prelude.{◌≡◌, ℕ, zero, suc, ◌+◌, ◌-◌, ◌≤◌, ◌<◌, List, length, get_or, Some, None, option_and_then}
+use Rattle.std.proofs.Common.{refl, ◌⊎◌, inl, inr}
 use borrow.Author.Tests.{eq-eqb, ne_eqb}
 use Rattle.model.specs.Syntax.{Expr, Nodes, vars_of, vars_in, vars_test}
 use Rattle.model.specs.Requests.{free}
 use Rattle.model.specs.Bytes.{byte_at}
 use Rattle.model.specs.Readings.{expr_at, constraint_at, nodes_by}
-use Rattle.wire.proofs.Reading.{on_yes, on_no}
 use Rattle.phrases.specs.Phrases.{levels_by, fact_by}
 use Rattle.phrases.specs.Marks.{none, marked, meet}
 use Rattle.nodes.specs.Tree.{shape_at, end_in, tree_in}
-use Rattle.safety.specs.Safety.{full, safe_with, not_safe, known_then, needed, dropped, known_says, known_in, known_all_in, known_any_in}
-use Rattle.safety.specs.declared.Known.{Known}
-use Rattle.nodes.specs.declared.tree.Shape.{Shape}
+use Rattle.safety.specs.Safety.{full, needed, dropped, known_says, known_in, known_all_in, known_any_in}
 use Rattle.nodes.specs.declared.tree.Shape.TheVariants.{Says, Test, All, Any, Not, Exists, Nothing}
-use Rattle.nodes.proofs.TreeSteps.{nodes_none, nodes_more, tree_deep, tree_past, tree_says, tree_test, tree_all, tree_any, tree_not, tree_exists}
+use Rattle.nodes.proofs.TreeSteps.{nodes_done, nodes_next, nodes_none, nodes_more}
+use Rattle.nodes.proofs.TreeSteps.{tree_deep, tree_past, tree_says, tree_test, tree_all, tree_any, tree_not, tree_exists}
 use Rattle.nodes.proofs.TreeSteps.{tree_nothing}
-use Rattle.safety.proofs.SafetySteps.{known_yes, known_no}
 
 module _ (sg s : List ℕ) where
   -- a says node, flat and nested
-  flat_says_law : (e : Expr) (k p : ℕ) (m : List ℕ) → k ≡ 0
-      → safe_with (marked (vars_in (levels_by sg k s p)) (marked (vars_of e) m)) ≡ known_says e (levels_by sg k s p) m
+  flat : (e : Expr) (k p : ℕ) (m : List ℕ) → k ≡ 0 → known_says e (levels_by sg k s p) m ≡ Some (marked (vars_in (levels_by sg k s p)) (marked (vars_of e) m))
   unfolding levels_by known_says
-  flat_says_law e k p m h = rw h
+  flat e k p m h = rw h
 
-  nested_says_law : (e : Expr) (k p : ℕ) (m : List ℕ) → (k ≡ 0 → ⊥)
-      → needed (marked (vars_in (levels_by sg k s p)) none) m (marked (vars_of e) m) ≡ known_says e (levels_by sg k s p) m
+  nested : (e : Expr) (k p : ℕ) (m : List ℕ) → (k ≡ 0 → ⊥)
+      → known_says e (levels_by sg k s p) m ≡ needed (marked (vars_in (levels_by sg k s p)) none) m (marked (vars_of e) m)
   unfolding levels_by known_says
-  nested_says_law e zero p m h = absurd (h refl)
-  nested_says_law e (suc k) p m h = refl
+  nested e zero p m h = absurd (h refl)
+  nested e (suc k) p m h = refl
 
-  pub says_flat : (e : Expr) (p : ℕ) (m : List ℕ) (z : Known) → byte_at s p ≡ 0 → z ≡ safe_with (marked (vars_in (fact_by sg s p)) (marked (vars_of e) m))
-      → z ≡ known_says e (fact_by sg s p) m
+  pub says_flat : (e : Expr) (p : ℕ) (m : List ℕ) → byte_at s p ≡ 0
+      → known_says e (fact_by sg s p) m ≡ Some (marked (vars_in (fact_by sg s p)) (marked (vars_of e) m))
   unfolding fact_by
-  says_flat e p m z h g = g ∙ flat_says_law e (byte_at s p) (p + 1) m h
+  says_flat e p m = flat e (byte_at s p) (p + 1) m
 
-  pub says_nested : (e : Expr) (p : ℕ) (m : List ℕ) (z : Known) → (byte_at s p ≡ 0 → ⊥)
-      → z ≡ needed (marked (vars_in (fact_by sg s p)) none) m (marked (vars_of e) m) → z ≡ known_says e (fact_by sg s p) m
+  pub says_nested : (e : Expr) (p : ℕ) (m : List ℕ) → (byte_at s p ≡ 0 → ⊥)
+      → known_says e (fact_by sg s p) m ≡ needed (marked (vars_in (fact_by sg s p)) none) m (marked (vars_of e) m)
   unfolding fact_by
-  says_nested e p m z h g = g ∙ nested_says_law e (byte_at s p) (p + 1) m h
+  says_nested e p m = nested e (byte_at s p) (p + 1) m
 
   abbrev nodes_in : ℕ → ℕ → ℕ → Nodes
   nodes_in d n at = nodes_by (tree_in sg s d) (end_in sg s d) n at
 
   module _ (d at : ℕ) (m : List ℕ) where
-    pub known_deep : d ≡ 0 → safe_with m ≡ known_in (tree_in sg s d at) m
+    pub known_outside : (d ≡ 0) ⊎ ((d ≡ 0 → ⊥) × (length s ≤ at)) → known_in (tree_in sg s d at) m ≡ Some m
     unfolding known_in known_all_in
-    known_deep e = rw (tree_deep sg s d at e)
+    known_outside (inl e) = rw (tree_deep sg s d at e)
+    known_outside (inr p) = rw (tree_past sg s d at p.1)
 
-    pub known_past : length s ≤ at → safe_with m ≡ known_in (tree_in sg s d at) m
-    unfolding known_in known_all_in
-    known_past l = rw (tree_past sg s d at l)
-
-    module _ (y : Shape) (z : Known) (n : d ≡ 0 → ⊥) (l : at < length s) (e : y ≡ shape_at s at) where
-      pub known_says_law : y ≡ Says → z ≡ known_says (expr_at s (at + 1)) (fact_by sg s (at + 3)) m → z ≡ known_in (tree_in sg s d at) m
+    module _ (n : d ≡ 0 → ⊥) (l : at < length s) where
+      pub known_at_says : shape_at s at ≡ Says → known_in (tree_in sg s d at) m ≡ known_says (expr_at s (at + 1)) (fact_by sg s (at + 3)) m
       unfolding known_in
-      known_says_law g h = rw (tree_says sg s d at y n l e g) h
+      known_at_says g = rw (tree_says sg s d at (shape_at s at) n l refl g)
 
-      pub known_test : y ≡ Test → z ≡ needed (marked (vars_test (constraint_at s (at + 1))) none) m m → z ≡ known_in (tree_in sg s d at) m
+      pub known_at_test : shape_at s at ≡ Test → known_in (tree_in sg s d at) m ≡ needed (marked (vars_test (constraint_at s (at + 1))) none) m m
       unfolding known_in
-      known_test g h = rw (tree_test sg s d at y n l e g) h
+      known_at_test g = rw (tree_test sg s d at (shape_at s at) n l refl g)
 
-      pub known_all_law : y ≡ All → z ≡ known_all_in (nodes_in (d - 1) (byte_at s (at + 1)) (at + 2)) m → z ≡ known_in (tree_in sg s d at) m
+      pub known_at_all : shape_at s at ≡ All → known_in (tree_in sg s d at) m ≡ known_all_in (nodes_in (d - 1) (byte_at s (at + 1)) (at + 2)) m
       unfolding known_in
-      known_all_law g h = rw (tree_all sg s d at y n l e g) h
+      known_at_all g = rw (tree_all sg s d at (shape_at s at) n l refl g)
 
-      pub known_any_law : y ≡ Any → z ≡ known_any_in (nodes_in (d - 1) (byte_at s (at + 1)) (at + 2)) m → z ≡ known_in (tree_in sg s d at) m
+      pub known_at_any : shape_at s at ≡ Any → known_in (tree_in sg s d at) m ≡ known_any_in (nodes_in (d - 1) (byte_at s (at + 1)) (at + 2)) m
       unfolding known_in
-      known_any_law g h = rw (tree_any sg s d at y n l e g) h
+      known_at_any g = rw (tree_any sg s d at (shape_at s at) n l refl g)
 
-      pub known_not : (a q : Known) → y ≡ Not → a ≡ needed (marked (free (tree_in sg s (d - 1) (at + 1))) none) m m → a.safe ≡ true
-          → q ≡ known_in (tree_in sg s (d - 1) (at + 1)) m
-          → z ≡ known_then q (λ _. safe_with m) → z ≡ known_in (tree_in sg s d at) m
+      pub known_at_not : shape_at s at ≡ Not
+          → known_in (tree_in sg s d at) m
+          ≡ option_and_then (λ _. option_and_then (λ _. Some m) (known_in (tree_in sg s (d - 1) (at + 1)) m))
+          (needed (marked (free (tree_in sg s (d - 1) (at + 1))) none) m m)
       unfolding known_in
-      known_not a q g b o k h =
-          rw (tree_not sg s d at y n l e g) (known_yes _ a (λ _. known_then (known_in (tree_in sg s (d - 1) (at + 1)) m) (λ _. safe_with m)) z b o (rw (← k) h))
+      known_at_not g = rw (tree_not sg s d at (shape_at s at) n l refl g)
 
-      pub known_not_free : y ≡ Not → z ≡ needed (marked (free (tree_in sg s (d - 1) (at + 1))) none) m m → z.safe ≡ false → z ≡ known_in (tree_in sg s d at) m
+      pub known_new : shape_at s at ≡ Exists → get_or m (byte_at s (at + 1)) 0 ≡ 0
+          → known_in (tree_in sg s d at) m ≡ option_and_then (dropped (byte_at s (at + 1))) (known_in (tree_in sg s (d - 1) (at + 2)) m)
       unfolding known_in
-      known_not_free g b o = rw (tree_not sg s d at y n l e g)
-          (known_no _ z (λ _. known_then (known_in (tree_in sg s (d - 1) (at + 1)) m) (λ _. safe_with m)) b o)
+      known_new g o = rw (tree_exists sg s d at (shape_at s at) n l refl g, eq-eqb (get_or m (byte_at s (at + 1)) 0) 0 o)
 
-      pub known_exists : (q : Known) → y ≡ Exists → get_or m (byte_at s (at + 1)) 0 ≡ 0 → q ≡ known_in (tree_in sg s (d - 1) (at + 2)) m
-          → z ≡ known_then q (dropped (byte_at s (at + 1))) → z ≡ known_in (tree_in sg s d at) m
+      pub known_again : shape_at s at ≡ Exists → (get_or m (byte_at s (at + 1)) 0 ≡ 0 → ⊥) → known_in (tree_in sg s d at) m ≡ None
       unfolding known_in
-      known_exists q g o k h = rw (tree_exists sg s d at y n l e g) (on_yes _ _ _ _ (eq-eqb (get_or m (byte_at s (at + 1)) 0) 0 o) (rw (← k) h))
+      known_again g o = rw (tree_exists sg s d at (shape_at s at) n l refl g, ne_eqb (get_or m (byte_at s (at + 1)) 0) 0 o)
 
-      pub known_again : y ≡ Exists → (get_or m (byte_at s (at + 1)) 0 ≡ 0 → ⊥) → z ≡ not_safe → z ≡ known_in (tree_in sg s d at) m
-      unfolding known_in
-      known_again g o h = rw (tree_exists sg s d at y n l e g) (on_no _ _ _ _ (ne_eqb (get_or m (byte_at s (at + 1)) 0) 0 o) h)
-
-      pub known_nothing : y ≡ Nothing → z ≡ safe_with m → z ≡ known_in (tree_in sg s d at) m
+      pub known_nothing : shape_at s at ≡ Nothing → known_in (tree_in sg s d at) m ≡ Some m
       unfolding known_in known_all_in
-      known_nothing g h = rw (tree_nothing sg s d at y n l e g) h
+      known_nothing g = rw (tree_nothing sg s d at (shape_at s at) n l refl g)
+
+  module _ (d n i at : ℕ) (m : List ℕ) where
+    pub all_done : n ≤ i → known_all_in (nodes_in d (n - i) at) m ≡ Some m
+    unfolding known_all_in
+    all_done h = rw (nodes_done (tree_in sg s d) (end_in sg s d) n i at h)
+
+    pub all_next : i < n
+        → known_all_in (nodes_in d (n - i) at) m
+        ≡ option_and_then (known_all_in (nodes_in d (n - (i + 1)) (end_in sg s d at))) (known_in (tree_in sg s d at) m)
+    unfolding known_all_in
+    all_next h = rw (nodes_next (tree_in sg s d) (end_in sg s d) n i at h)
 
   module _ (d n at : ℕ) (m : List ℕ) where
-    pub all_none : n ≡ 0 → safe_with m ≡ known_all_in (nodes_in d n at) m
-    unfolding known_all_in
-    all_none e = rw (nodes_none (tree_in sg s d) (end_in sg s d) n at e)
-
-    pub any_none : n ≡ 0 → safe_with full ≡ known_any_in (nodes_in d n at) m
+    pub any_none : n ≡ 0 → known_any_in (nodes_in d n at) m ≡ Some full
     unfolding known_any_in
     any_none e = rw (nodes_none (tree_in sg s d) (end_in sg s d) n at e)
 
-    module _ (y : Known) (x : n ≡ 0 → ⊥) (a : y ≡ known_in (tree_in sg s d at) m) where
-      pub all_more : (z : Known) (p : ℕ) → y.safe ≡ true → p ≡ end_in sg s d at → z ≡ known_all_in (nodes_in d (n - 1) p) y.of
-          → z ≡ known_all_in (nodes_in d n at) m
-      unfolding known_all_in
-      all_more z p o e h = rw (nodes_more (tree_in sg s d) (end_in sg s d) n at p x e) (known_yes _ y (known_all_in (nodes_in d (n - 1) p)) z a o h)
+    pub any_more : (n ≡ 0 → ⊥)
+        → known_any_in (nodes_in d n at) m
+        ≡ option_and_then (λ u. option_and_then (λ w. Some (meet 8 u w)) (known_any_in (nodes_in d (n - 1) (end_in sg s d at)) m))
+        (known_in (tree_in sg s d at) m)
+    unfolding known_any_in
+    any_more x = rw (nodes_more (tree_in sg s d) (end_in sg s d) n at (end_in sg s d at) x refl)
 
-      pub all_stop : y.safe ≡ false → y ≡ known_all_in (nodes_in d n at) m
-      unfolding known_all_in
-      all_stop o =
-          rw (nodes_more (tree_in sg s d) (end_in sg s d) n at (end_in sg s d at) x refl)
-          (known_no _ y (known_all_in (nodes_in d (n - 1) (end_in sg s d at))) a o)
+pub ruleset says_steps = (says_flat, says_nested)
 
-      pub any_more : (q z : Known) (p : ℕ) → y.safe ≡ true → p ≡ end_in sg s d at → q ≡ known_any_in (nodes_in d (n - 1) p) m
-          → z ≡ known_then q (λ w. safe_with (meet 8 y.of w)) → z ≡ known_any_in (nodes_in d n at) m
-      unfolding known_any_in
-      any_more q z p o e k h =
-          rw (nodes_more (tree_in sg s d) (end_in sg s d) n at p x e)
-          (known_yes _ y (λ u. known_then (known_any_in (nodes_in d (n - 1) p) m) (λ w. safe_with (meet 8 u w))) z a o (rw (← k) h))
-
-      pub any_stop : y.safe ≡ false → y ≡ known_any_in (nodes_in d n at) m
-      unfolding known_any_in
-      any_stop o =
-          let p = end_in sg s d at in
-          rw (nodes_more (tree_in sg s d) (end_in sg s d) n at p x refl)
-          (known_no _ y (λ u. known_then (known_any_in (nodes_in d (n - 1) p) m) (λ w. safe_with (meet 8 u w))) a o)
+pub ruleset known_steps = (
+  known_outside,
+  known_at_says,
+  known_at_test,
+  known_at_all,
+  known_at_any,
+  known_at_not,
+  known_new,
+  known_again,
+  known_nothing,
+  all_done,
+  all_next,
+  any_none,
+  any_more,
+)

@@ -1,4 +1,3 @@
 pub mod SafetySteps
 pub mod KnownSteps
 pub mod SafeLaws
-pub mod JudgeSteps

@@ -20,9 +20,8 @@ use Rattle.model.proofs.ListFacts.{keep_of}
 use Rattle.model.proofs.BindingFacts.{at_variable}
 use Rattle.phrases.specs.Marks.{none, marked, meet}
 use Rattle.phrases.proofs.Sets.{marked_append, marked_length, marked_at, within_is, meet_is, drop_is, mark_is}
-use Rattle.safety.specs.Safety.{safe_with, not_safe, known_then, taken, needed, dropped, known_says, known_in, known_all_in, known_any_in, judged_safe}
-use Rattle.safety.specs.Safety.{judged_unsafe, judged_known, judged_by, judged_in}
-use Rattle.safety.specs.declared.Known.{Known}
+use Rattle.std.specs.Prelude.{Option as Answer, Some, None, option_and_then, if◌then◌else◌}
+use Rattle.safety.specs.Safety.{taken, needed, dropped, known_says, known_in, known_all_in, known_any_in, judged_known, judged_in}
 use Rattle.model.proofs.Tests.{eqb_turned}
 use Rattle.safety.specs.declared.Judged.{Judged}
 
@@ -79,41 +78,37 @@ added xs vs = sym (marked_append vs xs none) ∙ swap vs xs
 
 -- ---- what is known
 
-abbrev known_as : Option (List ℕ) → Known
-known_as option.none = not_safe
-known_as (some ws) = safe_with (marked ws none)
+-- the model's list of known variables, as marks
+abbrev known_as : Option (List ℕ) → Answer (List ℕ)
+known_as option.none = None
+known_as (some ws) = Some (marked ws none)
 
-provided_is : (b : Bool) (o : Option (List ℕ)) → choose b (known_as o) not_safe ≡ known_as (provided b o)
-unfolding choose
+provided_is : (b : Bool) (o : Option (List ℕ)) → (if b then known_as o else None) ≡ known_as (provided b o)
 provided_is true o = refl
 provided_is false o = refl
 
-onward_is : (o : Option (List ℕ)) (f : List ℕ → Known) (g : List ℕ → Option (List ℕ)) → ((ws : List ℕ) → f (marked ws none) ≡ known_as (g ws))
-    → known_then (known_as o) f ≡ known_as (onward o g)
-unfolding known_then choose
+onward_is : (o : Option (List ℕ)) (f : List ℕ → Answer (List ℕ)) (g : List ℕ → Option (List ℕ)) → ((ws : List ℕ) → f (marked ws none) ≡ known_as (g ws))
+    → option_and_then f (known_as o) ≡ known_as (onward o g)
 onward_is option.none f g h = refl
 onward_is (some ws) f g h = h ws
 
-then_is : (k : Known) (o : Option (List ℕ)) (f : List ℕ → Known) (g : List ℕ → Option (List ℕ)) → k ≡ known_as o
-    → ((ws : List ℕ) → f (marked ws none) ≡ known_as (g ws)) → known_then k f ≡ known_as (onward o g)
+then_is : (k : Answer (List ℕ)) (o : Option (List ℕ)) (f : List ℕ → Answer (List ℕ)) (g : List ℕ → Option (List ℕ)) → k ≡ known_as o
+    → ((ws : List ℕ) → f (marked ws none) ≡ known_as (g ws)) → option_and_then f k ≡ known_as (onward o g)
 then_is k o f g e h = rw e (onward_is o f g h)
 
 abbrev pub Below : List ℕ → Type 0
 Below xs = (v : ℕ) → Memᴰ v xs → v < 8
 
-needed_is : (xs vs u : List ℕ) → Below xs → needed (marked xs none) (marked vs none) u ≡ choose (among xs vs) (safe_with u) not_safe
-unfolding needed
+needed_is : (xs vs u : List ℕ) → Below xs → needed (marked xs none) (marked vs none) u ≡ (if among xs vs then Some u else None)
 needed_is xs vs u h = rw (within_is xs vs h)
 
 -- what is needed, and then f
-needed_then : (b : Bool) (m : List ℕ) (f : List ℕ → Known) (o : Option (List ℕ)) → f m ≡ known_as o
-    → known_then (choose b (safe_with m) not_safe) f ≡ known_as (provided b o)
-unfolding known_then choose
+needed_then : (b : Bool) (m : List ℕ) (f : List ℕ → Answer (List ℕ)) (o : Option (List ℕ)) → f m ≡ known_as o
+    → option_and_then f (if b then Some m else None) ≡ known_as (provided b o)
 needed_then true m f o h = h
 needed_then false m f o h = refl
 
 dropped_is : (v : ℕ) (ws : List ℕ) → v < 8 → dropped v (marked ws none) ≡ known_as (provided (member v ws) (some (without v ws)))
-unfolding dropped
 dropped_is v ws h = rw (mark_is ws v h, drop_is v ws) (provided_is (member v ws) (some (without v ws)))
 
 -- ---- nodes whose variables are among the eight
@@ -162,24 +157,24 @@ mutual
 
   pub known_is : (n : Node) (vs : List ℕ) → Small n → known_in n (marked vs none) ≡ known_as (known n vs)
   known_is (says e (flat s v ps)) vs h =
-      ap safe_with
+      ap Some
       (ap (marked (vars_in (flat s v ps))) (added (vars_of e) vs) ∙ added (vars_in (flat s v ps)) (vars_of e ++ vs)
       ∙ same_marks (vars_in (flat s v ps) ++ (vars_of e ++ vs)) (vars_of e ++ vars_in (flat s v ps) ++ vs)
       (λ w. swapped w (vars_in (flat s v ps)) (vars_of e) vs))
   known_is (says e (can_say s d f)) vs h =
       needed_is (vars_in (can_say s d f)) vs (marked (vars_of e) (marked vs none)) (λ w m. h w (Memᴰ.append_right (vars_of e) m))
-      ∙ ap (λ (u : List ℕ). choose (among (vars_in (can_say s d f)) vs) (safe_with u) not_safe) (added (vars_of e) vs)
+      ∙ ap (λ (u : List ℕ). if among (vars_in (can_say s d f)) vs then Some u else None) (added (vars_of e) vs)
       ∙ provided_is (among (vars_in (can_say s d f)) vs) (some (vars_of e ++ vs))
   known_is (test c) vs h = needed_is (vars_test c) vs (marked vs none) h ∙ provided_is (among (vars_test c) vs) (some vs)
   known_is (all_of ns) vs h = known_all_is ns vs h
   known_is (any_of ns) vs h = known_any_is ns vs h
   known_is (non n) vs h =
       let K = known_in n (marked vs none) in
-      let rest = then_is K (known n vs) (λ _. safe_with (marked vs none)) (λ ws. some vs) (known_is n vs h) (λ ws. refl) in
-      ap (λ (k : Known). known_then k (λ _. known_then K (λ _. safe_with (marked vs none)))) (needed_is (free n) vs (marked vs none) (free_below n h))
+      let rest = then_is K (known n vs) (λ _. Some (marked vs none)) (λ ws. some vs) (known_is n vs h) (λ ws. refl) in
+      ap (option_and_then (λ _. option_and_then (λ _. Some (marked vs none)) K)) (needed_is (free n) vs (marked vs none) (free_below n h))
       ∙ needed_then (among (free n) vs) (marked vs none) _ (onward (known n vs) (λ ws. some vs)) rest
   known_is (exists v n) vs h =
-      ap₂ (λ (b : Bool) (k : Known). choose b k not_safe) (out vs v h.0)
+      ap₂ (λ (b : Bool) (k : Answer (List ℕ)). if b then k else None) (out vs v h.0)
       (then_is (known_in n (marked vs none)) (known n vs) (dropped v) (λ ws. provided (member v ws) (some (without v ws)))
       (known_is n vs h.1) (λ ws. dropped_is v ws h.0))
       ∙ provided_is (not (member v vs)) (onward (known n vs) (λ ws. provided (member v ws) (some (without v ws))))
@@ -193,8 +188,8 @@ mutual
   known_any_is end vs h = refl
   known_any_is (more n ns) vs h =
       then_is (known_in n (marked vs none)) (known n vs) _ (λ ws. onward (known_any ns vs) (λ us. some (keep (λ w. member w us) ws))) (known_is n vs h.0)
-      (λ ws. then_is (known_any_in ns (marked vs none)) (known_any ns vs) (λ w. safe_with (meet 8 (marked ws none) w)) (λ us. some (keep (λ w. member w us) ws))
-      (known_any_is ns vs h.1) (λ us. ap safe_with (meet_is ws us)))
+      (λ ws. then_is (known_any_in ns (marked vs none)) (known_any ns vs) (λ w. Some (meet 8 (marked ws none) w)) (λ us. some (keep (λ w. member w us) ws))
+      (known_any_is ns vs h.1) (λ us. ap Some (meet_is ws us)))
 
 -- ---- binders
 
@@ -208,20 +203,20 @@ all_out v vs (x ∷ xs) = step (eqb x v) (eqb v x) (eqb_turned x v) (member x vs
     step false b p false d e q = rw (← p) q
 
 taken_is : (xs vs : List ℕ) → Below xs
-    → taken xs (marked vs none) ≡ choose (apart xs && all (λ v. not (member v vs)) xs) (safe_with (marked xs (marked vs none))) not_safe
-unfolding taken choose
+    → taken xs (marked vs none) ≡ (if apart xs && all (λ v. not (member v vs)) xs then Some (marked xs (marked vs none)) else None)
+unfolding taken
 taken_is [] vs h = refl
 taken_is (x ∷ xs) vs h =
     let l : x < 8 = h x (Memᴰ.head refl) in
     let one : marked (x ∷ []) (marked vs none) ≡ marked (x ∷ vs) none = added (x ∷ []) vs in
     let m = set (marked vs none) x 1 in
-    let ih : taken xs m ≡ choose (apart xs && all (λ v. not (member v (x ∷ vs))) xs) (safe_with (marked xs m)) not_safe =
+    let ih : taken xs m ≡ (if apart xs && all (λ v. not (member v (x ∷ vs))) xs then Some (marked xs m) else None) =
     rw one (taken_is xs (x ∷ vs) (λ v m. h v (Memᴰ.tail m))) in
-    let later = ih ∙ ap (λ (b : Bool). choose (apart xs && b) (safe_with (marked xs m)) not_safe) (all_out x vs xs) in
-    rw (out vs x l) (ap (λ (k : Known). choose (not (member x vs)) k not_safe) later
-    ∙ sum (not (member x vs)) (apart xs) (not (member x xs)) (all (λ v. not (member v vs)) xs) (safe_with (marked xs m)))
+    let later = ih ∙ ap (λ (b : Bool). if apart xs && b then Some (marked xs m) else None) (all_out x vs xs) in
+    rw (out vs x l) (ap (λ (k : Answer (List ℕ)). if not (member x vs) then k else None) later
+    ∙ sum (not (member x vs)) (apart xs) (not (member x xs)) (all (λ v. not (member v vs)) xs) (Some (marked xs m)))
   where
-    sum : (a b c d : Bool) (k : Known) → choose a (choose (b && (c && d)) k not_safe) not_safe ≡ choose ((c && b) && (a && d)) k not_safe
+    sum : (a b c d : Bool) (k : Answer (List ℕ)) → (if a then (if b && (c && d) then k else None) else None) ≡ (if (c && b) && (a && d) then k else None)
     sum true true true d k = refl
     sum true true false d k = refl
     sum true false true d k = refl
@@ -235,25 +230,31 @@ taken_is (x ∷ xs) vs h =
 
 -- THE LAW
 pub judged_is : (n : Node) → Small n
-    → judged_in n ≡ choose (safe_request n) (judged_safe (marked (free n) none) (marked (binders n) (marked (free n) none))) judged_unsafe
-unfolding judged_in judged_by judged_known choose
+    → judged_in n ≡ (if safe_request n then Some (record { free = marked (free n) none; used = marked (binders n) (marked (free n) none) }) else None)
+unfolding judged_in
 judged_is n h =
     rw (taken_is (binders n) (free n) (binders_below n h), known_is n [] h)
     (go (apart (binders n)) (all (λ v. not (member v (free n))) (binders n)) (known n []))
   where
-    safely : Judged
-    safely = judged_safe (marked (free n) none) (marked (binders n) (marked (free n) none))
+    f : List ℕ
+    f = marked (free n) none
 
-    last : (c : Bool) → choose c safely judged_unsafe ≡ choose (c && true && true) safely judged_unsafe
+    u : List ℕ
+    u = marked (binders n) (marked (free n) none)
+
+    safely : Answer Judged
+    safely = Some (record { free = f; used = u })
+
+    last : (c : Bool) → (if c then safely else None) ≡ (if c && true && true then safely else None)
     last true = refl
     last false = refl
 
     go : (a b : Bool) (o : Option (List ℕ))
-        → judged_by (marked (free n) none) (choose (a && b) (safe_with (marked (binders n) (marked (free n) none))) not_safe) (known_as o)
-        ≡ choose (is_safe o (free n) && a && b) safely judged_unsafe
+        → option_and_then (λ u. option_and_then (judged_known f u) (known_as o)) (if a && b then Some u else None)
+        ≡ (if is_safe o (free n) && a && b then safely else None)
     go true true option.none = refl
     go true true (some ws) = rw (within_is (free n) ws (free_below n h)) (last (among (free n) ws))
     go true false option.none = refl
-    go true false (some ws) = ap (λ (b : Bool). choose b safely judged_unsafe) (sym (and-false (among (free n) ws && true)))
+    go true false (some ws) = ap (λ (b : Bool). if b then safely else None) (sym (and-false (among (free n) ws && true)))
     go false b option.none = refl
-    go false b (some ws) = ap (λ (c : Bool). choose (c && b) safely judged_unsafe) (sym (and-false (among (free n) ws)))
+    go false b (some ws) = ap (λ (c : Bool). if c && b then safely else None) (sym (and-false (among (free n) ws)))

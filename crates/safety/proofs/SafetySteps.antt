@@ -1,38 +1,25 @@
--- Free variables, binders and known variables, one step on, as the code takes it.
-use mathlib.Core.Path.{◌≡◌, refl, sym, ◌∙◌, ap}
-use mathlib.Core.Bool.{Bool, true, false, not}
-use mathlib.Core.List.{List, [], ◌∷◌, ◌++◌}
-use Prim.Native.Nat.{ℕ, ◌+◌, ◌-◌, ◌≤◌, ◌<◌}
-use lib.ListN.{length, get_or, set}
+-- Free variables, binders and known variables of a request's nodes, one step on.
+use Rattle.std.specs.Prelude.{◌≡◌, ℕ, ◌+◌, ◌-◌, ◌≤◌, ◌<◌, Bool, true, false, not, List, [], ◌∷◌, ◌++◌, length, get_or, set}
+use Rattle.std.specs.Prelude.{Option, Some, None, option_and_then, if◌then◌else◌, eqb}
+use Rattle.std.proofs.Common.{refl, sym, ◌∙◌, ap, ◌⊎◌, inl, inr}
 use lib.Seq.{set-get_or, set-set, set_comm}
-use lib.Dec.{eqb}
 use borrow.Author.Tests.{eq-eqb, ne_eqb, eqb-true, eqb-false}
 use Rattle.model.specs.Lists.{only, without}
 use Rattle.model.specs.Syntax.{Nodes, vars_of, vars_in, vars_test}
 use Rattle.model.specs.Requests.{free, free_all}
 use Rattle.model.specs.Safety.{binders, binders_all}
-use Rattle.model.specs.Bytes.{byte_at, choose}
+use Rattle.model.specs.Bytes.{byte_at}
 use Rattle.model.specs.Readings.{expr_at, constraint_at, nodes_by}
-use Rattle.wire.proofs.Reading.{on_yes, on_no, choose_true}
 use Rattle.phrases.specs.Phrases.{fact_by}
 use Rattle.phrases.specs.Marks.{marked}
 use Rattle.phrases.proofs.Sets.{marked_append}
 use Rattle.nodes.specs.Tree.{shape_at, end_in, tree_in}
-use Rattle.safety.specs.Safety.{safe_with, not_safe, known_then, taken}
-use Rattle.safety.specs.declared.Known.{Known}
-use Rattle.nodes.specs.declared.tree.Shape.{Shape}
+use Rattle.safety.specs.Safety.{taken}
 use Rattle.nodes.specs.declared.tree.Shape.TheVariants.{Says, Test, All, Any, Not, Exists, Nothing}
-use Rattle.nodes.proofs.TreeSteps.{nodes_none, nodes_more, tree_deep, tree_past, tree_says, tree_test, tree_all, tree_any, tree_not, tree_exists}
+use Rattle.nodes.proofs.TreeSteps.{nodes_done, nodes_next, tree_deep, tree_past, tree_says, tree_test, tree_all, tree_any, tree_not, tree_exists}
 use Rattle.nodes.proofs.TreeSteps.{tree_nothing}
 
--- a number that a callee returned
-pub via_num : {r b t : ℕ} → r ≡ b → r ≡ t → b ≡ t
-via_num p q = sym p ∙ q
-
-pub via_other : {r b t : ℕ} → r ≡ b → (r ≡ t → ⊥) → b ≡ t → ⊥
-via_other p q e = q (p ∙ e)
-
--- ---- marks, and what is known
+-- ---- marks
 
 -- without v, whatever its mark is then
 set_apart : (v x : ℕ) (xs m : List ℕ) → set (marked xs m) v x ≡ marked (without v xs) (set m v x)
@@ -47,130 +34,105 @@ set_apart v x (w ∷ ws) m = go (eqb v w) refl (λ k. set_apart v x ws k)
 set_back : (v : ℕ) (xs m : List ℕ) → set (marked xs m) v (get_or m v 0) ≡ marked (without v xs) m
 set_back v xs m = set_apart v (get_or m v 0) xs m ∙ ap (marked (without v xs)) (set-get_or m v 0)
 
-pub known_yes : (x y : Known) (f : List ℕ → Known) (z : Known) → y ≡ x → y.safe ≡ true → z ≡ f y.of → z ≡ known_then x f
-unfolding known_then
-known_yes x y f z d e h = rw (← d) (on_yes y.safe (f y.of) y z e h)
-
-pub known_no : (x y : Known) (f : List ℕ → Known) → y ≡ x → y.safe ≡ false → y ≡ known_then x f
-unfolding known_then
-known_no x y f d e = rw (← d) (on_no y.safe (f y.of) y y e refl)
-
-pub safe_of : (m u : List ℕ) → m ≡ u → safe_with m ≡ safe_with u
-safe_of m u e = rw e
-
-under : (b : Bool) (x y : Known) (g : List ℕ → Known) → x ≡ known_then y g → choose b x not_safe ≡ known_then (choose b y not_safe) g
-unfolding choose known_then
+under : (b : Bool) (x y : Option (List ℕ)) (g : List ℕ → Option (List ℕ)) → x ≡ option_and_then g y
+    → (if b then x else None) ≡ option_and_then g (if b then y else None)
 under true x y g p = p
 under false x y g p = refl
 
-taken_append : (xs ys m : List ℕ) → taken (xs ++ ys) m ≡ known_then (taken xs m) (taken ys)
-unfolding taken known_then
-taken_append [] ys m = sym (choose_true (taken ys m) (safe_with m) refl)
+taken_append : (xs ys m : List ℕ) → taken (xs ++ ys) m ≡ option_and_then (taken ys) (taken xs m)
+unfolding taken
+taken_append [] ys m = refl
 taken_append (x ∷ xs) ys m = under (eqb (get_or m x 0) 0) _ _ (taken ys) (taken_append xs ys (set m x 1))
 
 module _ (sg s : List ℕ) where
-  abbrev nodes_in : ℕ → ℕ → ℕ → Nodes
+  abbrev pub nodes_in : ℕ → ℕ → ℕ → Nodes
   nodes_in d n at = nodes_by (tree_in sg s d) (end_in sg s d) n at
 
   -- ---- free variables
 
   module _ (d at : ℕ) (m : List ℕ) where
-    pub free_deep : d ≡ 0 → m ≡ marked (free (tree_in sg s d at)) m
-    free_deep e = rw (tree_deep sg s d at e)
+    pub free_outside : (d ≡ 0) ⊎ ((d ≡ 0 → ⊥) × (length s ≤ at)) → marked (free (tree_in sg s d at)) m ≡ m
+    free_outside (inl e) = rw (tree_deep sg s d at e)
+    free_outside (inr p) = rw (tree_past sg s d at p.1)
 
-    pub free_past : length s ≤ at → m ≡ marked (free (tree_in sg s d at)) m
-    free_past l = rw (tree_past sg s d at l)
+    module _ (n : d ≡ 0 → ⊥) (l : at < length s) where
+      pub free_says : shape_at s at ≡ Says
+          → marked (free (tree_in sg s d at)) m ≡ marked (vars_in (fact_by sg s (at + 3))) (marked (vars_of (expr_at s (at + 1))) m)
+      free_says g = rw (tree_says sg s d at (shape_at s at) n l refl g) (marked_append (vars_of (expr_at s (at + 1))) (vars_in (fact_by sg s (at + 3))) m)
 
-    module _ (y : Shape) (z : List ℕ) (n : d ≡ 0 → ⊥) (l : at < length s) (e : y ≡ shape_at s at) where
-      pub free_says : y ≡ Says → z ≡ marked (vars_in (fact_by sg s (at + 3))) (marked (vars_of (expr_at s (at + 1))) m) → z ≡ marked
-          (free (tree_in sg s d at)) m
-      free_says g h = rw (tree_says sg s d at y n l e g) (h ∙ sym (marked_append (vars_of (expr_at s (at + 1))) (vars_in (fact_by sg s (at + 3))) m))
+      pub free_test : shape_at s at ≡ Test → marked (free (tree_in sg s d at)) m ≡ marked (vars_test (constraint_at s (at + 1))) m
+      free_test g = rw (tree_test sg s d at (shape_at s at) n l refl g)
 
-      pub free_test : y ≡ Test → z ≡ marked (vars_test (constraint_at s (at + 1))) m → z ≡ marked (free (tree_in sg s d at)) m
-      free_test g h = rw (tree_test sg s d at y n l e g) h
+      pub free_inside : (shape_at s at ≡ All) ⊎ (shape_at s at ≡ Any)
+          → marked (free (tree_in sg s d at)) m ≡ marked (free_all (nodes_in (d - 1) (byte_at s (at + 1)) (at + 2))) m
+      free_inside (inl g) = rw (tree_all sg s d at (shape_at s at) n l refl g)
+      free_inside (inr g) = rw (tree_any sg s d at (shape_at s at) n l refl g)
 
-      pub free_all_law : y ≡ All → z ≡ marked (free_all (nodes_in (d - 1) (byte_at s (at + 1)) (at + 2))) m → z ≡ marked (free (tree_in sg s d at)) m
-      free_all_law g h = rw (tree_all sg s d at y n l e g) h
+      pub free_not : shape_at s at ≡ Not → marked (free (tree_in sg s d at)) m ≡ marked (free (tree_in sg s (d - 1) (at + 1))) m
+      free_not g = rw (tree_not sg s d at (shape_at s at) n l refl g)
 
-      pub free_any : y ≡ Any → z ≡ marked (free_all (nodes_in (d - 1) (byte_at s (at + 1)) (at + 2))) m → z ≡ marked (free (tree_in sg s d at)) m
-      free_any g h = rw (tree_any sg s d at y n l e g) h
+      pub free_exists : shape_at s at ≡ Exists
+          → marked (free (tree_in sg s d at)) m
+          ≡ set (marked (free (tree_in sg s (d - 1) (at + 2))) m) (byte_at s (at + 1)) (get_or m (byte_at s (at + 1)) 0)
+      free_exists g = rw (tree_exists sg s d at (shape_at s at) n l refl g) (sym (set_back (byte_at s (at + 1)) (free (tree_in sg s (d - 1) (at + 2))) m))
 
-      pub free_not : y ≡ Not → z ≡ marked (free (tree_in sg s (d - 1) (at + 1))) m → z ≡ marked (free (tree_in sg s d at)) m
-      free_not g h = rw (tree_not sg s d at y n l e g) h
+      pub free_nothing : shape_at s at ≡ Nothing → marked (free (tree_in sg s d at)) m ≡ m
+      free_nothing g = rw (tree_nothing sg s d at (shape_at s at) n l refl g)
 
-      pub free_exists : (u : List ℕ) → y ≡ Exists → u ≡ marked (free (tree_in sg s (d - 1) (at + 2))) m
-          → z ≡ set u (byte_at s (at + 1)) (get_or m (byte_at s (at + 1)) 0) → z ≡ marked (free (tree_in sg s d at)) m
-      free_exists u g k h = rw (tree_exists sg s d at y n l e g) (h ∙ rw k (set_back (byte_at s (at + 1)) (free (tree_in sg s (d - 1) (at + 2))) m))
+  module _ (d n i at : ℕ) (m : List ℕ) where
+    pub free_done : n ≤ i → marked (free_all (nodes_in d (n - i) at)) m ≡ m
+    free_done h = rw (nodes_done (tree_in sg s d) (end_in sg s d) n i at h)
 
-      pub free_nothing : y ≡ Nothing → z ≡ m → z ≡ marked (free (tree_in sg s d at)) m
-      free_nothing g h = rw (tree_nothing sg s d at y n l e g) h
-
-  module _ (d n at : ℕ) (m : List ℕ) where
-    pub free_none : n ≡ 0 → m ≡ marked (free_all (nodes_in d n at)) m
-    free_none e = rw (nodes_none (tree_in sg s d) (end_in sg s d) n at e)
-
-    pub free_more : (u z : List ℕ) (p : ℕ) → (n ≡ 0 → ⊥) → u ≡ marked (free (tree_in sg s d at)) m → p ≡ end_in sg s d at
-        → z ≡ marked (free_all (nodes_in d (n - 1) p)) u → z ≡ marked (free_all (nodes_in d n at)) m
-    free_more u z p x a e h =
-        rw (nodes_more (tree_in sg s d) (end_in sg s d) n at p x e)
-        (h ∙ ap (marked (free_all (nodes_in d (n - 1) p))) a ∙ sym (marked_append (free (tree_in sg s d at)) (free_all (nodes_in d (n - 1) p)) m))
+    pub free_next : i < n
+        → marked (free_all (nodes_in d (n - i) at)) m ≡ marked (free_all (nodes_in d (n - (i + 1)) (end_in sg s d at))) (marked (free (tree_in sg s d at)) m)
+    free_next h =
+        rw (nodes_next (tree_in sg s d) (end_in sg s d) n i at h)
+        (marked_append (free (tree_in sg s d at)) (free_all (nodes_in d (n - (i + 1)) (end_in sg s d at))) m)
 
   -- ---- binders
 
   module _ (d at : ℕ) (m : List ℕ) where
-    pub binders_deep : d ≡ 0 → safe_with m ≡ taken (binders (tree_in sg s d at)) m
+    pub binders_outside : (d ≡ 0) ⊎ ((d ≡ 0 → ⊥) × (length s ≤ at)) → taken (binders (tree_in sg s d at)) m ≡ Some m
     unfolding taken
-    binders_deep e = rw (tree_deep sg s d at e)
+    binders_outside (inl e) = rw (tree_deep sg s d at e)
+    binders_outside (inr p) = rw (tree_past sg s d at p.1)
 
-    pub binders_past : length s ≤ at → safe_with m ≡ taken (binders (tree_in sg s d at)) m
+    module _ (n : d ≡ 0 → ⊥) (l : at < length s) where
+      pub binders_plain : (shape_at s at ≡ Says) ⊎ ((shape_at s at ≡ Test) ⊎ (shape_at s at ≡ Nothing)) → taken (binders (tree_in sg s d at)) m ≡ Some m
+      unfolding taken
+      binders_plain (inl g) = rw (tree_says sg s d at (shape_at s at) n l refl g)
+      binders_plain (inr (inl g)) = rw (tree_test sg s d at (shape_at s at) n l refl g)
+      binders_plain (inr (inr g)) = rw (tree_nothing sg s d at (shape_at s at) n l refl g)
+
+      pub binders_inside : (shape_at s at ≡ All) ⊎ (shape_at s at ≡ Any)
+          → taken (binders (tree_in sg s d at)) m ≡ taken (binders_all (nodes_in (d - 1) (byte_at s (at + 1)) (at + 2))) m
+      binders_inside (inl g) = rw (tree_all sg s d at (shape_at s at) n l refl g)
+      binders_inside (inr g) = rw (tree_any sg s d at (shape_at s at) n l refl g)
+
+      pub binders_not : shape_at s at ≡ Not → taken (binders (tree_in sg s d at)) m ≡ taken (binders (tree_in sg s (d - 1) (at + 1))) m
+      binders_not g = rw (tree_not sg s d at (shape_at s at) n l refl g)
+
+      pub binders_new : shape_at s at ≡ Exists → get_or m (byte_at s (at + 1)) 0 ≡ 0
+          → taken (binders (tree_in sg s d at)) m ≡ taken (binders (tree_in sg s (d - 1) (at + 2))) (set m (byte_at s (at + 1)) 1)
+      unfolding taken
+      binders_new g o = rw (tree_exists sg s d at (shape_at s at) n l refl g, eq-eqb (get_or m (byte_at s (at + 1)) 0) 0 o)
+
+      pub binders_old : shape_at s at ≡ Exists → (get_or m (byte_at s (at + 1)) 0 ≡ 0 → ⊥) → taken (binders (tree_in sg s d at)) m ≡ None
+      unfolding taken
+      binders_old g o = rw (tree_exists sg s d at (shape_at s at) n l refl g, ne_eqb (get_or m (byte_at s (at + 1)) 0) 0 o)
+
+  module _ (d n i at : ℕ) (m : List ℕ) where
+    pub binders_done : n ≤ i → taken (binders_all (nodes_in d (n - i) at)) m ≡ Some m
     unfolding taken
-    binders_past l = rw (tree_past sg s d at l)
+    binders_done h = rw (nodes_done (tree_in sg s d) (end_in sg s d) n i at h)
 
-    module _ (y : Shape) (z : Known) (n : d ≡ 0 → ⊥) (l : at < length s) (e : y ≡ shape_at s at) where
-      pub binders_says : y ≡ Says → z ≡ safe_with m → z ≡ taken (binders (tree_in sg s d at)) m
-      unfolding taken
-      binders_says g h = rw (tree_says sg s d at y n l e g) h
+    pub binders_next : i < n
+        → taken (binders_all (nodes_in d (n - i) at)) m
+        ≡ option_and_then (taken (binders_all (nodes_in d (n - (i + 1)) (end_in sg s d at)))) (taken (binders (tree_in sg s d at)) m)
+    binders_next h =
+        rw (nodes_next (tree_in sg s d) (end_in sg s d) n i at h)
+        (taken_append (binders (tree_in sg s d at)) (binders_all (nodes_in d (n - (i + 1)) (end_in sg s d at))) m)
 
-      pub binders_test : y ≡ Test → z ≡ safe_with m → z ≡ taken (binders (tree_in sg s d at)) m
-      unfolding taken
-      binders_test g h = rw (tree_test sg s d at y n l e g) h
+pub ruleset binders_steps = (binders_outside, binders_plain, binders_inside, binders_not, binders_new, binders_old, binders_done, binders_next)
 
-      pub binders_all_law : y ≡ All → z ≡ taken (binders_all (nodes_in (d - 1) (byte_at s (at + 1)) (at + 2))) m → z ≡ taken (binders (tree_in sg s d at)) m
-      binders_all_law g h = rw (tree_all sg s d at y n l e g) h
-
-      pub binders_any : y ≡ Any → z ≡ taken (binders_all (nodes_in (d - 1) (byte_at s (at + 1)) (at + 2))) m → z ≡ taken (binders (tree_in sg s d at)) m
-      binders_any g h = rw (tree_any sg s d at y n l e g) h
-
-      pub binders_not : y ≡ Not → z ≡ taken (binders (tree_in sg s (d - 1) (at + 1))) m → z ≡ taken (binders (tree_in sg s d at)) m
-      binders_not g h = rw (tree_not sg s d at y n l e g) h
-
-      pub binders_new : y ≡ Exists → get_or m (byte_at s (at + 1)) 0 ≡ 0 → z ≡ taken (binders (tree_in sg s (d - 1) (at + 2))) (set m (byte_at s (at + 1)) 1)
-          → z ≡ taken (binders (tree_in sg s d at)) m
-      unfolding taken
-      binders_new g o h = rw (tree_exists sg s d at y n l e g) (on_yes _ _ _ _ (eq-eqb (get_or m (byte_at s (at + 1)) 0) 0 o) h)
-
-      pub binders_old : y ≡ Exists → (get_or m (byte_at s (at + 1)) 0 ≡ 0 → ⊥) → z ≡ not_safe → z ≡ taken (binders (tree_in sg s d at)) m
-      unfolding taken
-      binders_old g o h = rw (tree_exists sg s d at y n l e g) (on_no _ _ _ _ (ne_eqb (get_or m (byte_at s (at + 1)) 0) 0 o) h)
-
-      pub binders_nothing : y ≡ Nothing → z ≡ safe_with m → z ≡ taken (binders (tree_in sg s d at)) m
-      unfolding taken
-      binders_nothing g h = rw (tree_nothing sg s d at y n l e g) h
-
-  module _ (d n at : ℕ) (m : List ℕ) where
-    pub binders_none : n ≡ 0 → safe_with m ≡ taken (binders_all (nodes_in d n at)) m
-    unfolding taken
-    binders_none e = rw (nodes_none (tree_in sg s d) (end_in sg s d) n at e)
-
-    pub binders_more : (y z : Known) (p : ℕ) → (n ≡ 0 → ⊥) → y ≡ taken (binders (tree_in sg s d at)) m → y.safe ≡ true → p ≡ end_in sg s d at
-        → z ≡ taken (binders_all (nodes_in d (n - 1) p)) y.of
-        → z ≡ taken (binders_all (nodes_in d n at)) m
-    binders_more y z p x a o e h =
-        rw (nodes_more (tree_in sg s d) (end_in sg s d) n at p x e, taken_append (binders (tree_in sg s d at)) (binders_all (nodes_in d (n - 1) p)) m)
-        (known_yes _ y (taken (binders_all (nodes_in d (n - 1) p))) z a o h)
-
-    pub binders_stop : (y : Known) → (n ≡ 0 → ⊥) → y ≡ taken (binders (tree_in sg s d at)) m → y.safe ≡ false → y ≡ taken (binders_all (nodes_in d n at)) m
-    binders_stop y x a o =
-        let p = end_in sg s d at in
-        let rest = binders_all (nodes_in d (n - 1) p) in
-        rw (nodes_more (tree_in sg s d) (end_in sg s d) n at p x refl, taken_append (binders (tree_in sg s d at)) rest m) (known_no _ y (taken rest) a o)
+pub ruleset free_steps = (free_outside, free_says, free_test, free_inside, free_not, free_exists, free_nothing, free_done, free_next)

@@ -1,2 +1,2 @@
 pub mod ListFacts
-pub mod StepLaws
+pub mod ListSteps

@@ -1,32 +1,22 @@
 -- Items one after another, one step on, as the code takes them.
 use mathlib.Core.Path.{◌≡◌, refl, sym, ◌∙◌, ap, subst}
-use mathlib.Core.Bool.{Bool, true, false, ◌||◌, false≢true}
+use mathlib.Core.Bool.{Bool, true, false, false≢true}
 use mathlib.Core.Logic.{⊎_elim}
 use mathlib.Core.List.Memᴰ
 use mathlib.Core.List.{List, [], ◌∷◌, ◌++◌, Memᴰ}
-use Prim.Native.Nat.{ℕ, zero, suc, ◌+◌, ◌-◌, ◌<◌, ◌≤◌}
-use native.Mathlib.Numerals.{sub-one, add-one}
+use Prim.Native.Nat.{ℕ, zero, suc, ◌+◌, ◌<◌, ◌≤◌}
 use native.Mathlib.Omega.{arith}
 use lib.ListN.{length, get_or, length-map}
 use borrow.Author.Tests.{ltb-false}
-use Rattle.wire.proofs.Reading.{choose_true, choose_false}
 use Rattle.model.specs.Bytes.{byte_at, u16_at, choose, Reading, got, refused, and_then}
-use Rattle.model.specs.Lists.{any}
 use Rattle.model.specs.Readings.{item_end, ends_by}
 use Rattle.model.proofs.ReadFacts.{and_then_got, choose_yes}
 use Rattle.model.specs.Policies.{Item, contents, offsets, items_from, list_at}
 pub use Rattle.model.proofs.Tests.{T_true}
-use Rattle.slices.specs.declared.Step.{Step}
-use Rattle.slices.specs.declared.Step.TheVariants.{Next, Refused}
-use Rattle.slices.specs.Steps.{step, count_right}
+use Rattle.slices.specs.Steps.{Step, Next, Refused, step, count_right}
 use Rattle.slices.specs.Items.{starts_at, items_at}
 
 -- ---- where items end
-
-pub ends_more : (g : ℕ → ℕ) (k p : ℕ) → (k ≡ 0 → ⊥) → ends_by g (k - 1) (g p) ≡ ends_by g k p
-unfolding ends_by
-ends_more g zero p h = absurd (h refl)
-ends_more g (suc k) p h = rw sub-one
 
 pub ends_after : (g : ℕ → ℕ) → ((x : ℕ) → x < g x) → (k p : ℕ) → p ≤ ends_by g k p
 unfolding ends_by
@@ -42,19 +32,10 @@ pub item_up : (s : List ℕ) (x : ℕ) → x < item_end s x
 unfolding item_end
 item_up s x = omega arith
 
-pub next_within : (s : List ℕ) (k p q : ℕ) → (k ≡ 0 → ⊥) → ends_by (item_end s) k p ≤ q → item_end s p ≤ q
-next_within s k p q h l =
-    let e = ends_more (item_end s) k p h in
-    let a = ends_after (item_end s) (item_up s) (k - 1) (item_end s p) in
-    omega arith
-
 -- an item of one length byte ends where the code finds it to end
 pub item_end_law : (s : List ℕ) (p r : ℕ) → r ≡ byte_at s p → p + 1 + r ≡ item_end s p
 unfolding item_end
 item_end_law s p r e = rw e
-
-pub ends_step : (s : List ℕ) (k p r q : ℕ) → (k ≡ 0 → ⊥) → r ≡ byte_at s p → ends_by (item_end s) k p ≤ q → ends_by (item_end s) (k - 1) (p + 1 + r) ≤ q
-ends_step s k p r q h e l = rw (item_end_law s p r e, ends_more (item_end s) k p h) l
 
 -- ---- one item more
 
@@ -63,19 +44,6 @@ module _ {A : Type 0} (of : ℕ → A) (next : ℕ → ℕ) where
   unfolding items_at ends_by
   items_snoc zero p = refl
   items_snoc (suc k) p = ap (λ (l : List (Item A)). record { at = p; of = of p } ∷ l) (items_snoc k (next p))
-
--- ---- one of the items is alike
-
-module _ {A : Type 0} (f : A → Bool) (of : ℕ → A) (next : ℕ → ℕ) where
-  pub any_none : (k p : ℕ) → k ≡ 0 → false ≡ any f (contents (items_at of next k p))
-  unfolding items_at
-  any_none k p e = rw e
-
-  pub any_more : (k p y : ℕ) (z : Bool) → (k ≡ 0 → ⊥) → y ≡ next p → z ≡ (f (of p) || any f (contents (items_at of next (k - 1) y)))
-      → z ≡ any f (contents (items_at of next k p))
-  unfolding items_at
-  any_more zero p y z h d e = absurd (h refl)
-  any_more (suc k) p y z h d e = rw (sub-one, d) at e
 
 -- ---- the items of a list, read one after the other
 
@@ -93,28 +61,11 @@ module _ {A : Type 0} where
   step_next (got x d) e h = (x, cc)
   step_next (refused n p) e h = absurd (next_not n p e h)
 
-  pub step_yes : (b : Bool) (x y : Reading A) (z : Step) → b ≡ true → z ≡ step x → z ≡ step (choose b x y)
-  step_yes b x y z e h = h ∙ ap step (sym (choose_true x y e))
-
-  pub step_no : (b : Bool) (x y : Reading A) (z : Step) → b ≡ false → z ≡ step y → z ≡ step (choose b x y)
-  step_no b x y z e h = h ∙ ap step (sym (choose_false x y e))
-
 -- a reader of items, `f`: what it reads at an offset is `of` it, and ends at `next`, by the end of the bytes
 pub record Reads {A : Type 0} (s : List ℕ) (f : List A → ℕ → Reading A) (of : ℕ → A) (next : ℕ → ℕ) : Type 0 where
   pub value : (before : List A) (at : ℕ) (x : A) (e : ℕ) → f before at ≡ got x e → x ≡ of at
   pub end : (before : List A) (at : ℕ) (x : A) (e : ℕ) → f before at ≡ got x e → e ≡ next at
   pub within : (before : List A) (at : ℕ) (x : A) (e : ℕ) → f before at ≡ got x e → e ≤ length s
-
-module _ {A : Type 0} (f : List A → ℕ → Reading A) where
-  pub items_none : (n : ℕ) (is : List (Item A)) (at : ℕ) → n ≡ 0 → Next at ≡ step (items_from f n is at)
-  unfolding items_from step
-  items_none n is at e = rw e
-
-  pub items_refused : (n : ℕ) (is : List (Item A)) (at : ℕ) (y : Step) (a b : ℕ) → (n ≡ 0 → ⊥) → y ≡ step (f (contents is) at) → y ≡ Refused a b
-      → Refused a b ≡ step (items_from f n is at)
-  unfolding items_from step and_then
-  items_refused zero is at y a b h d e = absurd (h refl)
-  items_refused (suc n) is at y a b h d e = rw (step_refused (f (contents is) at) a b (sym d ∙ e))
 
 module _ {A : Type 0} (s : List ℕ) (f : List A → ℕ → Reading A) (of : ℕ → A) (next : ℕ → ℕ) (reads : Reads s f of next) where
   -- with one item more
@@ -124,20 +75,6 @@ module _ {A : Type 0} (s : List ℕ) (f : List A → ℕ → Reading A) (of : �
   items_got n k p at x e d h =
       rw h (ap (λ (is : List (Item A)). items_from f n is e)
       (ap (λ (i : Item A). items_at of next k p ++ i ∷ []) (let v : x ≡ of at = reads.value _ at x e h in rw (v, d)) ∙ items_snoc of next k p))
-
-  pub items_next : (n k p at : ℕ) (y : Step) (e : ℕ) (z : Step) → (n ≡ 0 → ⊥) → ends_by next k p ≡ at → y ≡ step (f (contents (items_at of next k p)) at)
-      → y ≡ Next e
-      → z ≡ step (items_from f (n - 1) (items_at of next (k + 1) p) e) → z ≡ step (items_from f n (items_at of next k p) at)
-  items_next zero k p at y e z m h d g l = absurd (m refl)
-  items_next (suc n) k p at y e z m h d g l =
-      let r = step_next (f (contents (items_at of next k p)) at) e (sym d ∙ g) in
-      (rw (sub-one, add-one) at l) ∙ ap step (sym (items_got n k p at r.0 e (sym h) r.1))
-
-  pub next_ends : (k p at : ℕ) (y : Step) (e : ℕ) → ends_by next k p ≡ at → y ≡ step (f (contents (items_at of next k p)) at) → y ≡ Next e
-      → ends_by next (k + 1) p ≡ e
-  next_ends k p at y e h d g =
-      let r = step_next (f (contents (items_at of next k p)) at) e (sym d ∙ g) in
-      rw (add-one) (ends_snoc next k p ∙ ap next h ∙ sym (reads.end _ at r.0 e r.1))
 
   -- what was read is what stands there
   items_all : (n k m p at : ℕ) (js : List (Item A)) (e : ℕ) → k + n ≡ m → at ≡ ends_by next k p → at ≤ length s
@@ -170,13 +107,6 @@ module _ {A : Type 0} (s : List ℕ) (lowest highest : ℕ) (f : List A → ℕ 
   unfolding list_at count_right
   list_is = tests _ _ _ _ _
 
-  pub list_yes : (z : Step) → count_right s lowest highest p ≡ true → z ≡ step (items_from f (u16_at s p) [] (p + 2)) → z ≡ step (list_at s lowest highest f p)
-  list_yes z h e = rw list_is (step_yes _ _ _ z h e)
-
-  pub list_no : count_right s lowest highest p ≡ false → Refused 3 p ≡ step (list_at s lowest highest f p)
-  unfolding step
-  list_no h = rw list_is (step_no (count_right s lowest highest p) _ _ (Refused 3 p) h refl)
-
 -- the count of a list that is there
 pub record Counted (s : List ℕ) (lowest highest p : ℕ) : Type 0 where
   pub there : p + 2 ≤ length s
@@ -200,6 +130,9 @@ counted s lowest highest p h =
     let b = no_first _ _ (no_rest _ _ h) in
     let c = no_first _ _ (no_rest _ _ (no_rest _ _ h)) in
     record { there = ltb-false _ _ a; least = ltb-false _ _ b; most = ltb-false _ _ c }
+
+pub count_there : (s : List ℕ) (lowest highest p : ℕ) → count_right s lowest highest p ≡ true → p + 2 ≤ length s
+count_there s lowest highest p h = (counted s lowest highest p h).there
 
 module _ {A : Type 0} (s : List ℕ) (lowest highest : ℕ) (f : List A → ℕ → Reading A) (of : ℕ → A) (next : ℕ → ℕ) (reads : Reads s f of next) (p : ℕ) where
   pub list_got : (js : List (Item A)) (e : ℕ) → list_at s lowest highest f p ≡ got js e

@@ -4,65 +4,85 @@
 ghost use Rattle.std.specs.Prelude.{◌≡◌, true, ◌+◌, ◌≤◌, length};
 ghost use Rattle.model.specs.Policies.{version_there, length_right};
 ghost use Rattle.wire.specs.Budget.{farthest, longest};
-ghost use Rattle.slices.specs.Steps.{count_right, ended_at};
+ghost use Rattle.slices.specs.Steps.{number_of, step_of, count_right, ended_at};
 
-// Where reading goes on, or a refusal's number and place.
-#[derive(Clone, Copy)]
-pub enum Step {
-    Next(usize),
-    Refused(u8, usize),
+pub mod lists;
+
+// Why a slice is refused, by the numbers of docs/FORMAT.md.
+#[derive(Clone, Copy, PartialEq, Eq)]
+pub enum Reason {
+    Version = 1,
+    Length,
+    Form,
+    Repeated,
+    Unfit,
+    UnsafeAssertion,
+    UnsafeRequest,
+    Variable = 10,
+    OwnPart,
+}
+
+// A refusal, with the place of what it refuses.
+#[derive(Clone, Copy, PartialEq, Eq)]
+pub struct Refusal {
+    pub reason: Reason,
+    pub place: usize,
+}
+
+impl Reason {
+    // The refusal for this reason at a place.
+    pub fn at(self, place: usize) -> Refusal
+        ensures { result ≡ record { reason = self; place = place } }
+    {
+        Refusal {
+            reason: self,
+            place,
+        }
+    }
+
+    pub fn number(self) -> u8
+        ensures { result ≡ number_of self }
+    {
+        self as u8
+    }
 }
 
 // "1 version absent or not 1": a slice takes the versions 1 to `latest`.
+#[tactic(auto, unfolding(model::specs::Policies::version_there, model::specs::Bytes::both, model::specs::Bytes::choose))]
 pub fn version_there(s: &[u8], latest: usize) -> bool
     ensures { result ≡ version_there latest s.now }
 {
-    if 0 < s.len() {
-        let version = wire::byte(s, 0);
-        if 1 <= version {
-            return version <= latest;
-        }
-        return false;
+    match s.first() {
+        Some(&version) => 1 <= version && usize::from(version) <= latest,
+        None => false,
     }
-    false
 }
 
 // "2 length field short or wrong"
+#[tactic(auto, unfolding(model::specs::Policies::length_right, model::specs::Bytes::both, model::specs::Bytes::choose))]
 pub fn length_right(s: &[u8]) -> bool
     ensures { (result ≡ length_right s.now) × (result ≡ true → length s.now ≤ longest) }
 {
-    if limits::HEADER <= s.len() {
-        if wire::u32_at(s, limits::LENGTH_AT) == s.len() - limits::HEADER {
-            return true;
-        }
-    }
-    false
+    limits::HEADER <= s.len() && wire::u32_at(s, limits::LENGTH_AT) == s.len() - limits::HEADER
 }
 
 // The 2-byte count at p is there and in its range.
+#[tactic(auto, unfolding(crate::specs::Steps::count_right, model::specs::Bytes::choose))]
 pub fn count_right(s: &[u8], lowest: usize, highest: usize, p: usize) -> bool
     requires { p ≤ farthest }
     ensures { result ≡ count_right s.now lowest highest p }
 {
-    if s.len() < p + 2 {
-        return false;
-    }
-    let n = wire::u16_at(s, p);
-    if n < lowest {
-        return false;
-    }
-    if highest < n {
-        return false;
-    }
-    true
+    p + 2 <= s.len() && (lowest..=highest).contains(&wire::u16_at(s, p))
 }
 
 // "bytes left over": the place is the first of them.
-pub fn ended(s: &[u8], p: usize) -> Step
-    ensures { result ≡ ended_at s.now p }
+#[tactic(auto, unfolding(crate::specs::Steps::ended_at, model::specs::Bytes::choose))]
+pub fn ended(s: &[u8], p: usize) -> Result<usize, Refusal>
+    ensures { step_of result ≡ ended_at s.now p }
 {
     if p == s.len() {
-        return Step::Next(p);
+        Ok(p)
+    } else {
+        Err(Reason::Form.at(p))
     }
-    Step::Refused(3, p)
 }

@@ -6,6 +6,5 @@ pub mod Merges
 pub mod Runs
 pub mod Sorting
 pub mod Parts
-pub mod Clearing
 pub mod Listing
 pub mod Model

@@ -1,18 +1,18 @@
--- Runs of bytes, one byte on, as the code takes them.
-use mathlib.Core.Path.{◌≡◌, refl}
-use mathlib.Core.Bool.{Bool, true, ◌&&◌}
+-- Runs of bytes, as std's lists have them.
+use mathlib.Core.Path.{◌≡◌, refl, ap, ◌∙◌}
+use mathlib.Core.Bool.{Bool, ◌&&◌}
 use mathlib.Core.List.{List}
-use Prim.Native.Nat.{ℕ, zero, suc, ◌+◌, ◌-◌}
-use native.Mathlib.Numerals.{sub-one}
-use Rattle.model.specs.Bytes.{byte_at, bytes_at}
+use Prim.Native.Nat.{ℕ, ◌+◌, ◌-◌, ◌≤◌}
+use native.Mathlib.Omega.{arith}
+use lib.ListN.{length, take, drop}
+use Rattle.std.specs.List.{list_all}
+use Rattle.std.proofs.lemmas.List.Recursion.{same_from_clauses}
+use Rattle.model.specs.Bytes.{bytes_at}
 use Rattle.model.specs.Lists.{all}
+use Rattle.model.proofs.ByteFacts.{part_is}
 
-module _ (f : ℕ → Bool) (s : List ℕ) where
-  pub all_none : (n p : ℕ) → n ≡ 0 → true ≡ all f (bytes_at n s p)
-  unfolding bytes_at
-  all_none n p e = rw e
-
-  pub all_more : (n p : ℕ) (z : Bool) → (n ≡ 0 → ⊥) → z ≡ (f (byte_at s p) && all f (bytes_at (n - 1) s (p + 1))) → z ≡ all f (bytes_at n s p)
-  unfolding bytes_at
-  all_more zero p z h e = absurd (h refl)
-  all_more (suc n) p z h e = rw sub-one at e
+-- a test of each byte of a part
+pub all_part : (f : ℕ → Bool) (n : ℕ) (s : List ℕ) (p : ℕ) → p + n ≤ length s → list_all f (take (p + n - p) (drop p s)) ≡ all f (bytes_at n s p)
+all_part f n s p h =
+    let e : p + n - p ≡ n = omega arith in
+    rw e (ap (list_all f) (part_is n s p h) ∙ same_from_clauses (list_all f) (all f) (λ x b. f x && b) refl (λ _ _. refl) (λ _ _. refl) (bytes_at n s p))

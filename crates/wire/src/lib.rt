@@ -16,6 +16,7 @@ pub fn byte(s: &[u8], at: usize) -> usize
 }
 
 // The two bytes at `at`, as a number.
+#[tactic(auto, unfolding(model::specs::Bytes::u16_at))]
 pub fn u16_at(s: &[u8], at: usize) -> usize
     requires { at + 2 ≤ length s.now }
     ensures { (result ≡ u16_at s.now at) × (result < 65536) }
@@ -24,6 +25,7 @@ pub fn u16_at(s: &[u8], at: usize) -> usize
 }
 
 // The four bytes at `at`, as a number.
+#[tactic(auto, unfolding(model::specs::Bytes::u32_at))]
 pub fn u32_at(s: &[u8], at: usize) -> usize
     requires { at + 4 ≤ length s.now }
     ensures { (result ≡ u32_at s.now at) × (result < 4294967296) }
@@ -31,27 +33,24 @@ pub fn u32_at(s: &[u8], at: usize) -> usize
     65536 * u16_at(s, at) + u16_at(s, at + 2)
 }
 
-// The byte at `at`, or 0 past the end.
-pub fn byte_or(s: &[u8], at: usize) -> usize
-    ensures { (result ≡ byte_at s.now at) × (result < 256) }
-{
-    if at < s.len() {
-        return byte(s, at);
-    }
-    0
-}
+// ---- The same where a byte past the end reads 0. Above, a place within the slice costs no test.
 
-// The byte at `at`, or 0 past the end, as a byte.
+// The byte at `at`, or 0 past the end.
 pub fn u8_or(s: &[u8], at: usize) -> u8
     ensures { result ≡ byte_at s.now at }
 {
-    if at < s.len() {
-        return s[at];
-    }
-    0
+    if at < s.len() { s[at] } else { 0 }
+}
+
+// The same as a number.
+pub fn byte_or(s: &[u8], at: usize) -> usize
+    ensures { (result ≡ byte_at s.now at) × (result < 256) }
+{
+    u8_or(s, at) as usize
 }
 
 // The two bytes at `at`, as a number, with 0 for each past the end.
+#[tactic(auto, unfolding(model::specs::Bytes::u16_at))]
 pub fn u16_or(s: &[u8], at: usize) -> usize
     requires { at ≤ farthest }
     ensures { (result ≡ u16_at s.now at) × (result < 65536) }
@@ -60,6 +59,7 @@ pub fn u16_or(s: &[u8], at: usize) -> usize
 }
 
 // The four bytes at `at`, as a number, with 0 for each past the end.
+#[tactic(auto, unfolding(model::specs::Bytes::u32_at))]
 pub fn u32_or(s: &[u8], at: usize) -> usize
     requires { at + 2 ≤ farthest }
     ensures { (result ≡ u32_at s.now at) × (result < 4294967296) }
@@ -67,41 +67,19 @@ pub fn u32_or(s: &[u8], at: usize) -> usize
     65536 * u16_or(s, at) + u16_or(s, at + 2)
 }
 
-// The byte at p may stand in a label.
-fn label_byte(s: &[u8], p: usize) -> bool
-    requires { p < length s.now }
-    ensures { result ≡ label_byte (byte_at s.now p) }
+// A byte that may stand in a label.
+fn label_byte(b: u8) -> bool
+    ensures { result ≡ label_byte b }
 {
-    let b = byte(s, p);
+    let b = b as usize;
     limits::LOWEST_LABEL_BYTE <= b && b <= limits::HIGHEST_LABEL_BYTE
 }
 
-// n such bytes from p on.
-fn label_bytes(s: &[u8], p: usize, n: usize) -> bool
-    requires { p + n ≤ length s.now }
-    ensures { result ≡ all label_byte (bytes_at n s.now p) }
-{
-    let mut left = n;
-    let mut at = p;
-    while left != 0 {
-        if !label_byte(s, at) {
-            return false;
-        }
-        left -= 1;
-        at += 1;
-    }
-    true
-}
-
 // A label of n bytes from p on.
+#[tactic(auto, unfolding(model::specs::Forms::label_form, model::specs::Bytes::both, model::specs::Bytes::choose))]
 pub fn label_form(s: &[u8], p: usize, n: usize) -> bool
     requires { p + n ≤ length s.now }
     ensures { result ≡ label_form n s.now p }
 {
-    if 1 <= n {
-        if n <= limits::LABEL {
-            return label_bytes(s, p, n);
-        }
-    }
-    false
+    1 <= n && n <= limits::LABEL && s[p..p + n].iter().all(|b| label_byte(*b))
 }

@@ -3,7 +3,7 @@ use mathlib.Core.Path.{◌≡◌, refl, sym, ap, ap₂, ◌∙◌}
 use mathlib.Core.Bool.{Bool, true, false, ◌&&◌, ◌||◌, not}
 use mathlib.Core.List.{List, [], ◌∷◌, ◌++◌, append-nil, append_assoc}
 use Prim.Native.Nat.{ℕ, zero, suc, ◌+◌, ◌*◌, ◌-◌, ◌≤◌, ◌<◌}
-use native.Mathlib.Numerals.{sub-one, add-one}
+use native.Mathlib.Numerals.{add-one}
 use native.Mathlib.Decide.{ℕ_discrete}
 use native.Mathlib.Omega.{arith}
 use lib.ListN.{length, length-set, get_or, set, take}
@@ -14,6 +14,7 @@ use Rattle.model.specs.Syntax.{World}
 use Rattle.model.specs.Bytes.{u16_at, u32_at}
 use Rattle.model.specs.Withdrawals.{removes}
 use Rattle.model.specs.Entries.{withdrawal_end}
+use Rattle.phrases.proofs.Laws.{left, done}
 use Rattle.slices.specs.Items.{starts_at, items_at}
 use Rattle.withdrawals.specs.Left.{entries_at, stays_at}
 use Rattle.withdrawals.specs.Sought.{holds_at, holding_at, named_at, unnamed_at, Within}
@@ -21,70 +22,71 @@ use Rattle.withdrawals.proofs.Leaving.{and_false}
 
 -- ---- one entry more
 
-module _ (W : World) (s : List ℕ) where
-  -- its constraints do not hold, or they do
-  next_passed : (n at y : ℕ) → (n ≡ 0 → ⊥) → y ≡ withdrawal_end s at → holds_at W s at ≡ false → holding_at W s (n - 1) y ≡ holding_at W s n at
-  unfolding starts_at
-  next_passed zero at y h d e = absurd (h refl)
-  next_passed (suc n) at y h d e = rw (e, sub-one, d)
-
-  next_went : (n at y : ℕ) → (n ≡ 0 → ⊥) → y ≡ withdrawal_end s at → holds_at W s at ≡ true → at ∷ holding_at W s (n - 1) y ≡ holding_at W s n at
-  unfolding starts_at
-  next_went zero at y h d e = absurd (h refl)
-  next_went (suc n) at y h d e = rw (e, sub-one, d)
-
-  -- of n entries k are put aside, and `more` from `at` on are still to be looked at
-  pub record Holding (n : ℕ) (ats : List ℕ) (more at k : ℕ) : Type 0 where
-    pub fewer : k + more ≤ n
+module _ (W : World) (s : List ℕ) (n : ℕ) where
+  -- of the first i of n entries k are put aside, and those from `at` on are still to be looked at
+  pub record Holding (ats : List ℕ) (i at k : ℕ) : Type 0 where
+    pub fewer : k ≤ i
     pub long : length ats ≡ 256
-    pub near : at + 2048 * more ≤ 7 + 2048 * n
-    pub aside : (i : ℕ) → i < k → get_or ats i 0 + 2048 ≤ farthest
-    pub kept : take k ats ++ holding_at W s more at ≡ holding_at W s n 7
+    pub near : at ≤ 7 + 2048 * i
+    pub aside : (j : ℕ) → j < k → get_or ats j 0 + 2048 ≤ farthest
+    pub kept : take k ats ++ holding_at W s (n - i) at ≡ holding_at W s n 7
 
-  pub holding_start : (n : ℕ) (ats : List ℕ) → length ats ≡ 256 → Holding n ats n 7 0
-  holding_start n ats l = record { fewer = omega arith; long = l; near = omega arith; aside = λ i h. absurd (omega arith); kept = refl }
+  pub holding_start : (ats : List ℕ) → length ats ≡ 256 → Holding ats 0 7 0
+  holding_start ats l = record {
+    fewer = omega arith;
+    long = l;
+    near = omega arith;
+    aside = λ i h. absurd (omega arith);
+    kept = ap (λ (m : ℕ). holding_at W s m 7) (omega arith);
+  }
 
-  module _ {n : ℕ} {ats : List ℕ} {more at k : ℕ} (H : Holding n ats more at k) (few : n ≤ 256) where
-    module _ (h : more ≡ 0 → ⊥) (y : ℕ) (end : y ≡ withdrawal_end s at) (l : y ≤ at + 2048) where
-      pub holding_passed : holds_at W s at ≡ false → Holding n ats (more - 1) y k
+  module _ {ats : List ℕ} {i at k : ℕ} (H : Holding ats i at k) (few : n ≤ 256) where
+    -- one entry more: its constraints do not hold, or they do
+    module _ (h : i < n) (y : ℕ) (end : y ≡ withdrawal_end s at) (l : y ≤ at + 2048) where
+      next : holding_at W s (n - i) at ≡ only (holds_at W s at) at ++ holding_at W s (n - (i + 1)) y
+      unfolding starts_at
+      next = rw (left n i h, end)
+
+      pub holding_passed : holds_at W s at ≡ false → Holding ats (i + 1) y k
       holding_passed e = record {
         fewer = (let f = H.fewer in omega arith);
         long = H.long;
         near = (let f = H.near in omega arith);
         aside = H.aside;
-        kept = ap (λ (r : List ℕ). take k ats ++ r) (next_passed more at y h end e) ∙ H.kept;
+        kept = ap (λ (r : List ℕ). take k ats ++ r) (sym (rw e at next)) ∙ H.kept;
       }
 
-      pub holding_went : holds_at W s at ≡ true → Holding n (set ats k at) (more - 1) y (k + 1)
+      pub holding_went : holds_at W s at ≡ true → Holding (set ats k at) (i + 1) y (k + 1)
       holding_went e = record {
         fewer = (let f = H.fewer in omega arith);
         long = length-set ats k at ∙ H.long;
         near = (let f = H.near in omega arith);
-        aside = λ i j. go i j (ℕ_discrete i k);
+        aside = λ j g. go j g (ℕ_discrete j k);
         kept =
             ap (λ (m : ℕ). take m (set ats k at) ++ rest) (add-one k)
             ∙ (ap (λ (r : List ℕ). r ++ rest) (take-suc-set ats k at room)
             ∙ (append_assoc (take k ats) (at ∷ []) rest
-            ∙ (ap (λ (r : List ℕ). take k ats ++ r) (next_went more at y h end e) ∙ H.kept)));
+            ∙ (ap (λ (r : List ℕ). take k ats ++ r) (sym (rw e at next)) ∙ H.kept)));
       }
         where
           rest : List ℕ
-          rest = holding_at W s (more - 1) y
+          rest = holding_at W s (n - (i + 1)) y
 
           room : k < length ats
           room = let f = H.fewer in let g = H.long in omega arith
 
-          go : (i : ℕ) → i < k + 1 → Dec (i ≡ k) → get_or (set ats k at) i 0 + 2048 ≤ farthest
-          go i j (yes q) = rw (q, get_or-set_same ats k at 0 room) (let f = H.near in omega arith)
-          go i j (no q) = rw (get_or-set_other ats k i at 0 q) (H.aside i (omega arith))
+          go : (j : ℕ) → j < k + 1 → Dec (j ≡ k) → get_or (set ats k at) j 0 + 2048 ≤ farthest
+          go j g (yes q) = rw (q, get_or-set_same ats k at 0 room) (let f = H.near in omega arith)
+          go j g (no q) = rw (get_or-set_other ats k j at 0 q) (H.aside j (omega arith))
 
     -- all are looked at
-    pub holding_end : more ≡ 0 → Within ats k × (take k ats ≡ holding_at W s n 7)
+    pub holding_end : n ≤ i → i ≤ n → Within ats k × (take k ats ≡ holding_at W s n 7)
     unfolding starts_at
-    holding_end e = (
-      record { few = (let f = H.fewer in omega arith); fits = (let f = H.fewer in let g = H.long in omega arith); near = H.aside },
-      sym (append-nil (take k ats)) ∙ (rw e at H.kept),
-    )
+    holding_end h m =
+        let e = done n i h in (
+          record { few = (let f = H.fewer in omega arith); fits = (let f = H.fewer in let g = H.long in omega arith); near = H.aside },
+          sym (append-nil (take k ats)) ∙ (rw e at H.kept),
+        )
 
 -- ---- an entry removes exactly if its constraints hold and it is for the issuer and the serial
 

@@ -2,8 +2,8 @@
 use mathlib.Core.Path.{◌≡◌, refl, sym, ap, ap₂, ◌∙◌}
 use mathlib.Core.Bool.{Bool, true, false, ◌&&◌, not}
 use mathlib.Core.List.{List, [], ◌∷◌, ◌++◌, append-nil}
-use Prim.Native.Nat.{ℕ, zero, suc, ◌+◌, ◌-◌, ◌≤◌, ◌<◌}
-use native.Mathlib.Numerals.{sub-one, add-one}
+use Prim.Native.Nat.{ℕ, ◌+◌, ◌-◌, ◌*◌, ◌≤◌, ◌<◌}
+use native.Mathlib.Numerals.{add-one}
 use native.Mathlib.Omega.{arith}
 use lib.Dec.{eqb, ltb}
 use lib.ListN.{length, length-set, get_or, set, take}
@@ -18,22 +18,26 @@ use Rattle.model.specs.Values.{passes}
 use Rattle.model.specs.Readings.{expr_of, constraint_at, constraints_at}
 use Rattle.model.specs.Withdrawals.{is_constant, no_binding}
 use Rattle.model.specs.Entries.{withdrawal_at}
+use Rattle.phrases.proofs.Laws.{left, done, next as next_at}
 use Rattle.slices.specs.Items.{items_at}
 use Rattle.withdrawals.specs.Left.{entries_at, named, stays_at, picked}
 
 -- ---- constraints
 
-module _ (W : World) (s : List ℕ) where
-  pub hold_none : (n p : ℕ) → n ≡ 0 → true ≡ all (passes W no_binding) (constraints_at n s p)
+module _ (W : World) (s : List ℕ) (n i p : ℕ) where
+  pub hold_more : i < n → passes W no_binding (constraint_at s (p + 5 * i)) ≡ true
+      → all (passes W no_binding) (constraints_at (n - i) s (p + 5 * i)) ≡ all (passes W no_binding) (constraints_at (n - (i + 1)) s (p + 5 * (i + 1)))
   unfolding constraints_at
-  hold_none n p e = rw e
+  hold_more h e = rw (left n i h, e, next_at p 5 i)
 
-  pub hold_more : (n p : ℕ) (z : Bool) → (n ≡ 0 → ⊥)
-      → z ≡ (passes W no_binding (constraint_at s p) && all (passes W no_binding) (constraints_at (n - 1) s (p + 5)))
-      → z ≡ all (passes W no_binding) (constraints_at n s p)
+  pub hold_stop : i < n → passes W no_binding (constraint_at s (p + 5 * i)) ≡ false
+      → all (passes W no_binding) (constraints_at (n - i) s (p + 5 * i)) ≡ false
   unfolding constraints_at
-  hold_more zero p z h g = absurd (h refl)
-  hold_more (suc n) p z h g = rw sub-one at g
+  hold_stop h e = rw (left n i h, e)
+
+  pub hold_none : n ≤ i → all (passes W no_binding) (constraints_at (n - i) s (p + 5 * i)) ≡ true
+  unfolding constraints_at
+  hold_none h = rw (done n i h)
 
 -- ---- an entry for an issuer and a serial
 
@@ -58,7 +62,7 @@ module _ (s : List ℕ) (at issuer serial : ℕ) where
   abbrev code : Bool
   code = not (eqb x today_code) && ltb x first_variable
 
-  names_is : named (withdrawal_at s at) issuer serial ≡ ((code && eqb x issuer) && eqb (u32_at s (at + 2)) serial)
+  pub names_is : named (withdrawal_at s at) issuer serial ≡ ((code && eqb x issuer) && eqb (u32_at s (at + 2)) serial)
   unfolding withdrawal_at
   names_is = ap (λ (b : Bool). b && eqb (u32_at s (at + 2)) serial) (constant_is x issuer)
 

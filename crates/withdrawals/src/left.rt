@@ -19,7 +19,7 @@ const ITEM_SERIAL: usize = 2;
 // Into how many chains entries are put: about one entry a chain where there are most.
 const BUCKETS: usize = 256;
 
-// How many there are of each, and the request's today.
+// How many there are of each, and the request's today. The policy's index is of fixed size and is lent whole, so its counts go with it.
 #[derive(Clone, Copy)]
 pub struct Counts {
     pub constants: usize,
@@ -29,6 +29,7 @@ pub struct Counts {
 }
 
 // n constraints of s from p on hold; the policy's constants stand at the first `count` offsets.
+#[tactic(auto, using(crate::proofs::Leaving::hold_more, crate::proofs::Leaving::hold_stop, crate::proofs::Leaving::hold_none))]
 fn tests_hold(
     policy: &[u8],
     constants: &[usize],
@@ -41,14 +42,11 @@ fn tests_hold(
     requires { (length policy.now ≤ longest) × (count ≤ length constants.now) × (p + 5 * n ≤ farthest) }
     ensures { result ≡ all (passes (world_at policy.now constants.now count today) no_binding) (constraints_at n s.now p) }
 {
-    let mut left = n;
-    let mut at = p;
-    while left != 0 {
+    for i in 0..n {
+        let at = p + phrases::CONSTRAINT * i;
         if !constraints::passes(policy, constants, count, s, at, [255; 8], today) {
             return false;
         }
-        left -= 1;
-        at += phrases::CONSTRAINT;
     }
     true
 }
@@ -61,21 +59,17 @@ fn is_constant(x: usize) -> bool
 }
 
 // The entry at `at` is for this issuer and serial.
+#[tactic(auto, using(crate::proofs::Leaving::names_is))]
 fn names(s: &[u8], at: usize, issuer: usize, serial: usize) -> bool
     requires { at + 2048 ≤ farthest }
     ensures { result ≡ named (withdrawal_at s.now at) issuer serial }
 {
     let x = wire::u16_or(s, at);
-    if x != issuer {
-        return false;
-    }
-    if is_constant(x) {
-        return wire::u32_or(s, at + SERIAL) == serial;
-    }
-    false
+    x == issuer && is_constant(x) && wire::u32_or(s, at + SERIAL) == serial
 }
 
 // The constraints of the entry at `at` hold.
+#[tactic(auto, unfolding(model::specs::Entries::withdrawal_at))]
 fn holds(policy: &[u8], constants: &[usize], s: &[u8], of: Counts, at: usize) -> bool
     requires { (length policy.now ≤ longest) × (of.constants ≤ length constants.now) × (at + 2048 ≤ farthest) }
     ensures { result ≡ holds_at (world_of policy.now constants.now of) s.now at }
@@ -90,19 +84,14 @@ fn holding(ats: &mut [usize], policy: &[u8], constants: &[usize], s: &[u8], of: 
     ensures { Within ats.new result × (take result ats.new
         ≡ holding_at (world_of policy.now constants.now of) s.now of.entries 7) }
 {
-    let mut more = of.entries;
     let mut at = FIRST;
     let mut k = 0;
-    while more != 0 {
-        let end = entry_end(s, at);
-        more -= 1;
-        if !holds(policy, constants, s, of, at) {
-            at = end;
-            continue;
+    for _ in 0..of.entries {
+        if holds(policy, constants, s, of, at) {
+            ats[k] = at;
+            k += 1;
         }
-        ats[k] = at;
-        k += 1;
-        at = end;
+        at = entry_end(s, at);
     }
     k
 }
@@ -130,10 +119,8 @@ fn link(links: &mut [u16], s: &[u8], ats: &[usize], count: usize)
     requires { (links.old ≡ replicate 513 0) × Within ats.now count }
     ensures { Linked s.now ats.now links.new count }
 {
-    let mut i = 0;
-    while i < count {
+    for i in 0..count {
         chains::add(links, BUCKETS, i, entry_bucket(s, ats[i]));
-        i += 1;
     }
 }
 
@@ -144,6 +131,7 @@ fn is_named(s: &[u8], ats: &[usize], links: &[u16], issuer: usize, serial: usize
         → result ≡ any (named_at s.now issuer serial) (take count ats.now) }
 {
     let mut i = chains::head(links, bucket(issuer, serial));
+    // the walk follows links to smaller numbers, which no range counts
     while 0 < i {
         if names(s, ats[i - 1], issuer, serial) {
             return true;
@@ -179,17 +167,13 @@ fn pick(
         ≡ picked (unnamed_at s.now (take n ats.now) policy.now)
         (take count items.now) (take count issuers.old)) }
 {
-    let mut i = 0;
     let mut k = 0;
-    while i < count {
+    for i in 0..count {
         let issuer = issuers[i];
-        if !stays(policy, s, ats, links, items[i], issuer) {
-            i += 1;
-            continue;
+        if stays(policy, s, ats, links, items[i], issuer) {
+            issuers[k] = issuer;
+            k += 1;
         }
-        issuers[k] = issuer;
-        k += 1;
-        i += 1;
     }
     k
 }

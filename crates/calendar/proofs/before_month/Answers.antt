@@ -1,33 +1,30 @@
--- Up to February the table as it is, from March on one more in a leap year.
+-- From March on one day more in a leap year.
 use mathlib.Core.Path.{◌≡◌, sym, ap, ◌∙◌}
 use native.Mathlib.Omega.{arith}
 use Rattle.model.specs.Calendar.{leap_year}
 use Rattle.model.proofs.DaysOfYear.{more}
 use Rattle.calendar.proofs.Laws.{early_month, late_month, base_most}
 use Rattle.calendar.proofs.before_month.Goals as goal
-
-pub overflow_cast-days-2 : goal.overflow_cast-days-2
-overflow_cast-days-2 c = omega (arith, base_most c.args.month c.requires.0 c.requires.1)
-
-pub returns-then-month-le2 : goal.returns-then-month-le2
-returns-then-month-le2 c =
-    let year = c.args.year in
-    let month = c.args.month in
-    (early_month year month c.requires.0 c.requires.1 c.if-month-le2.true, omega (arith, base_most month c.requires.0 c.requires.1))
-
-pub overflow_add-result : goal.overflow_add-result
-overflow_add-result c = omega (arith, base_most c.args.month c.requires.0 c.requires.1)
+use Rattle.calendar.proofs.before_month.Goals.{else-month-gt2-via-then-month-gt2+else-leap_year, else-month-gt2-via-else-month-gt2}
 
 pub returns-then-leap_year : goal.returns-then-leap_year
 returns-then-leap_year c =
-    let entry = c.before.before.before in
-    let one : more (leap_year entry.args.year) ≡ 1 = ap more (sym c.leap_year.ensures ∙ c.if-leap_year.true) in
-    let days = late_month entry.args.year entry.args.month entry.requires.0 entry.requires.1 (omega (arith, c.if-month-le2.false)) in
-    (omega (arith, one, days), omega (arith, base_most entry.args.month entry.requires.0 entry.requires.1))
+    let year = c.args.year in
+    let month = c.args.month in
+    let one : more (leap_year year) ≡ 1 = ap more (sym c.leap_year.ensures ∙ c.if-leap_year.true) in
+    let days = late_month year month c.requires.0 c.requires.1 c.if-month-gt2.true in
+    (omega (arith, one, days), omega (arith, base_most month c.requires.0 c.requires.1))
 
-pub returns : goal.returns
-returns c =
-    let entry = c.before.before.before in
-    let none : more (leap_year entry.args.year) ≡ 0 = ap more (sym c.leap_year.ensures ∙ c.if-leap_year.false) in
-    let days = late_month entry.args.year entry.args.month entry.requires.0 entry.requires.1 (omega (arith, c.if-month-le2.false)) in
-    (omega (arith, none, days), omega (arith, base_most entry.args.month entry.requires.0 entry.requires.1))
+pub returns-else-month-gt2 : goal.returns-else-month-gt2
+returns-else-month-gt2 c =
+    let year = c.args.year in
+    let month = c.args.month in
+    let most = base_most month c.requires.0 c.requires.1 in
+    elim c.else-month-gt2.branch [
+      | else-month-gt2-via-then-month-gt2+else-leap_year w ↦
+          (let none : more (leap_year year) ≡ 0 = ap more (sym w.leap_year.ensures ∙ w.if-leap_year.false) in
+          let days = late_month year month c.requires.0 c.requires.1 w.if-month-gt2.true in
+          (omega (arith, none, days), omega (arith, most)))
+      | else-month-gt2-via-else-month-gt2 w ↦
+          (early_month year month c.requires.0 c.requires.1 w.if-month-gt2.false, omega (arith, most))
+    ]

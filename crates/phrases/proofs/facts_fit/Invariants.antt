@@ -1,15 +1,9 @@
--- `phrases::facts_fit` meets its contract. The invariant: what the facts that are left make of the kinds so far, all make of the kinds at first.
-use mathlib.Core.Path.{◌≡◌}
-use Prim.Native.Nat.{◌+◌, ◌*◌, ◌≤◌}
+use Rattle.std.proofs.Common.{◌≡◌, ◌+◌, ◌-◌, ◌*◌, ◌≤◌}
 use Rattle.kinds.specs.Cells.{feed}
-use Rattle.kinds.specs.declared.Fit.{Fit}
 use Rattle.phrases.specs.Phrases.{facts_asks}
 use Rattle.phrases.proofs.facts_fit.Given as goal
 
-abbrev pub invariant-loop-left : goal.invariant-loop-left
-invariant-loop-left l =
-    (l.at + 2048 * l.left ≤ l.p + 2048 * l.n) × ((z : Fit) → z ≡ feed (facts_asks l.ks l.sg l.s l.left l.at) l.u → z ≡ feed
-    (facts_asks l.ks l.sg l.s l.n l.p) l.initial.u)
-
-abbrev pub decreases-loop-left : goal.decreases-loop-left
-decreases-loop-left l = l.left
+abbrev pub invariant-loop : goal.invariant-loop
+invariant-loop l =
+    (l.at ≤ l.p + 2048 * l.counter)
+    × (feed (facts_asks l.ks l.sg l.s (l.n - l.counter) l.at) l.u ≡ feed (facts_asks l.ks l.sg l.s l.n l.p) l.fn.t)

@@ -1,6 +1,7 @@
 use native.Mathlib.Omega.{arith}
 use mathlib.Core.Path.{◌∙◌, ap}
 use Prim.Native.Nat.{ℕ, ◌+◌}
+use Rattle.slices.specs.Steps.{step_of}
 use Rattle.policy.specs.Index.{kinds_at, signatures_at}
 use Rattle.policy.proofs.PolicyFacts.{constants_within, constants_counted, verbs_within, verbs_counted, rest_counted, rest_taken, rest_refused}
 use Rattle.policy.proofs.with_verbs.Goals as goal
@@ -24,27 +25,27 @@ accepted-requires c =
       P.0,
       (constants_counted _ _ P.1).most,
       (verbs_counted _ _ P.1 _ P.2).most,
-      rest_counted a.policy.now _ P.1 _ P.2 _ _ ks sg _ c.assertions.ensures c.in-Next.field-0 c.in-Next.is,
+      rest_counted a.policy.now _ P.1 _ P.2 _ _ ks sg _ c.assertions.ensures c.in-Ok.field-0 (ap step_of c.in-Ok.is),
     )
 
 -- the assertions are in order: the policy is taken
-pub returns-in-Next : goal.returns-in-Next
-returns-in-Next c =
+pub returns-in-Ok : goal.returns-in-Ok
+returns-in-Ok c =
     let a = c.args in
     let P = c.requires in
     let ks = c.kinds-kinds.ensures ∙ ap (λ (n : ℕ). kinds_at a.policy.now n 7) c.u16_or.ensures.0 in
     let sg = c.signatures-signatures.ensures ∙ ap (λ (n : ℕ). signatures_at a.policy.now n (a.second + 2)) c.u16_or-2.ensures.0 in
     rest_taken a.policy.now _ P.1 _ P.2 _ _ ks sg _ c.assertions.ensures
-    c.in-Next.field-0 c.in-Next.is _ c.accepted.ensures
+    c.in-Ok.field-0 (ap step_of c.in-Ok.is) _ c.accepted.ensures
 
 -- one of them is not: it is refused
-pub returns-in-Refused : goal.returns-in-Refused
-returns-in-Refused c =
+pub returns-in-Err : goal.returns-in-Err
+returns-in-Err c =
     let a = c.args in
     let P = c.requires in
     let ks = c.kinds-kinds.ensures ∙ ap (λ (n : ℕ). kinds_at a.policy.now n 7) c.u16_or.ensures.0 in
     let sg = c.signatures-signatures.ensures ∙ ap (λ (n : ℕ). signatures_at a.policy.now n (a.second + 2)) c.u16_or-2.ensures.0 in
-    rest_refused a.policy.now _ P.1 _ P.2 _ _ ks sg _ c.assertions.ensures _ _ c.in-Refused.is _ c.refused.ensures
+    rest_refused a.policy.now _ P.1 _ P.2 _ _ ks sg _ c.assertions.ensures _ _ (ap step_of c.in-Err.is) _ c.refused.ensures
 
 pub kinds-kinds-requires : goal.kinds-kinds-requires
 kinds-kinds-requires c =

@@ -1,7 +1,6 @@
-use borrow.Author.Rules.{rules}
-use Rattle.wire.proofs.Reading.{reading}
+use Rattle.std.proofs.Common.{rules}
 use Rattle.request.proofs.IssuerLaws.{issuers_are}
 use Rattle.request.proofs.issuers.Goals as goal
 
 pub returns : goal.returns
-returns c = search (issuers_are, reading, rules)
+returns c = search (issuers_are, rules)

@@ -1,8 +1,14 @@
-use Prim.Native.Nat.{◌+◌, ◌*◌}
+use Rattle.std.proofs.Common.{◌≡◌, ◌+◌, ◌-◌, ◌*◌}
+use Rattle.model.specs.Readings.{ends_by}
+use Rattle.nodes.specs.Tree.{end_in}
 use Rattle.nodes.proofs.tree.+node_end_nodes_end.Given as goal
 
 abbrev pub decreases-node_end : goal.decreases-node_end
-decreases-node_end l = 512 * l.d
+decreases-node_end l = 2 * l.d
 
 abbrev pub decreases-nodes_end : goal.decreases-nodes_end
-decreases-nodes_end l = 512 * l.d + l.n + 1
+decreases-nodes_end l = 2 * l.d + 1
+
+-- what is left ends where the whole does
+abbrev pub invariant-nodes_end-loop : goal.invariant-nodes_end-loop
+invariant-nodes_end-loop l = ends_by (end_in l.sg l.s l.d) (l.n - l.counter) l.end ≡ ends_by (end_in l.sg l.s l.d) l.n l.at

@@ -1,6 +1,5 @@
 use mathlib.Core.Path.{◌≡◌}
 use Prim.Native.Nat.{◌≤◌, ◌-◌, ◌+◌, ◌*◌}
-use lib.ListN.{length}
 use lib.Seq.{sets}
 use Rattle.wire.specs.Budget.{farthest}
 use Rattle.slices.specs.Items.{starts_at}
@@ -11,9 +10,6 @@ use Rattle.policy.proofs.tables.put_kinds.Given as goal
 
 abbrev pub invariant-loop-i : goal.invariant-loop-i
 invariant-loop-i l =
-    (l.i ≤ l.count) × (length l.table ≡ length l.initial.table) × (l.at + 256 * (l.count - l.i) + 2 ≤ farthest)
+    (l.at + 256 * (l.count - l.i) + 2 ≤ farthest)
     × (sets l.table l.i (map (kind_of l.policy) (starts_at (item_end l.policy) (l.count - l.i) l.at)) ≡ sets l.initial.table 0
     (map (kind_of l.policy) (starts_at (item_end l.policy) l.count l.from)))
-
-abbrev pub decreases-loop-i : goal.decreases-loop-i
-decreases-loop-i l = l.count - l.i

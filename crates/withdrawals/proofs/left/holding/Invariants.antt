@@ -3,8 +3,5 @@ use Rattle.withdrawals.specs.Left.{world_of}
 use Rattle.withdrawals.proofs.Holding.{Holding}
 use Rattle.withdrawals.proofs.left.holding.Given as goal
 
-abbrev pub invariant-loop-more : goal.invariant-loop-more
-invariant-loop-more l = Holding (world_of l.policy l.constants l.of) l.s l.of.entries l.ats l.more l.at l.k
-
-abbrev pub decreases-loop-more : goal.decreases-loop-more
-decreases-loop-more l = l.more
+abbrev pub invariant-loop : goal.invariant-loop
+invariant-loop l = Holding (world_of l.policy l.constants l.of) l.s l.of.entries l.ats l.counter l.at l.k

@@ -1,13 +1,9 @@
 use mathlib.Core.Path.{◌∙◌}
 use Prim.Native.Nat.{◌<◌}
 use native.Mathlib.Omega.{arith}
-use borrow.Author.Rules.{rules}
 use Rattle.wire.proofs.Reading.{via}
 use Rattle.withdrawals.proofs.Sought.{head_there, head_entry_law, chain_all, chain_end, entry_near, link_there, link_falls, chain_here, chain_on}
 use Rattle.withdrawals.proofs.left.is_named.Goals as goal
-
-pub bucket-requires : goal.bucket-requires
-bucket-requires c = (c.requires.1, c.requires.2)
 
 pub head-i-requires : goal.head-i-requires
 head-i-requires c = head_there c.requires.0.1 _ c.bucket.ensures.1
@@ -19,12 +15,6 @@ loop-i-init c =
     let linked = c.requires.0 in
     let head = c.head-i.ensures.0 in
     ((linked.0, linked.1, head_entry_law linked.1 _ _ place.1 head), λ count L. chain_all L _ _ _ _ place.0 place.1 head)
-
-pub overflow_sub-i : goal.overflow_sub-i
-overflow_sub-i c = search rules
-
-pub offset_bounds-ats-i : goal.offset_bounds-ats-i
-offset_bounds-ats-i c = let there = c.loop-i.invariant.0 in omega (arith, entry_near there.1 _ there.2 (omega (arith, c.loop-i-test.true)))
 
 -- entry i
 pub bounds-ats-i : goal.bounds-ats-i

@@ -2,7 +2,6 @@
 use mathlib.Core.Path.{refl, sym, ◌∙◌}
 use native.Mathlib.Omega.{arith}
 use lib.Seq.{length-take-le}
-use borrow.Author.Rules.{rules}
 use Rattle.withdrawals.specs.Left.{world_of}
 use Rattle.withdrawals.proofs.Leaving.{none_removed, picked_all, picked_same}
 use Rattle.withdrawals.proofs.Holding.{stays_same}
@@ -20,34 +19,10 @@ returns-then-of-eq0 c =
           (length-take-le _ args.items.now lent.listed ∙ sym (length-take-le _ args.issuers.now lent.issued)) none),
     )
 
-pub slice_bounds-holding-end : goal.slice_bounds-holding-end
-slice_bounds-holding-end c = search rules
-
-pub holding-n-requires : goal.holding-n-requires
-holding-n-requires c = search rules
-
-pub slice_bounds-link-end : goal.slice_bounds-link-end
-slice_bounds-link-end c = search rules
-
-pub slice_bounds-link-end-2 : goal.slice_bounds-link-end-2
-slice_bounds-link-end-2 c = search rules
-
-pub link-requires : goal.link-requires
-link-requires c = search rules
-
-pub slice_bounds-pick-end : goal.slice_bounds-pick-end
-slice_bounds-pick-end c = search rules
-
-pub slice_bounds-pick-end-2 : goal.slice_bounds-pick-end-2
-slice_bounds-pick-end-2 c = search rules
-
 pub pick-requires : goal.pick-requires
 pick-requires c =
     let lent = c.requires in
     ((_, c.link.ensures), record { listed = lent.listed; issued = lent.issued; near = lent.near })
-
-pub shape_of-issuers : goal.shape_of-issuers
-shape_of-issuers c = search rules
 
 pub returns : goal.returns
 returns c =

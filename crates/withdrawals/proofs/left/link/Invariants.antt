@@ -1,6 +1,5 @@
 -- The invariant: the first i entries are in their chains.
 use mathlib.Core.Path.{◌≡◌}
-use Prim.Native.Nat.{◌-◌, ◌≤◌}
 use lib.ListN.{length}
 use mathlib.Core.List.{map}
 use Rattle.chains.specs.Chains.{Chained}
@@ -8,7 +7,4 @@ use Rattle.withdrawals.specs.Sought.{buckets, bucket_at, newest}
 use Rattle.withdrawals.proofs.left.link.Given as goal
 
 abbrev pub invariant-loop-i : goal.invariant-loop-i
-invariant-loop-i l = (l.i ≤ l.count) × (length l.links ≡ 513) × Chained l.links buckets (map (bucket_at l.s) (newest l.ats l.i))
-
-abbrev pub decreases-loop-i : goal.decreases-loop-i
-decreases-loop-i l = l.count - l.i
+invariant-loop-i l = (length l.links ≡ 513) × Chained l.links buckets (map (bucket_at l.s) (newest l.ats l.i))

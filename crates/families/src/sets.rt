@@ -1,0 +1,117 @@
+// Sets of marks, sixteen to a number: written by the marks, listed in ascending order, and added to other marks.
+ghost use Rattle.std.specs.Prelude.{◌≡◌, ◌++◌, ◌+◌, ◌%◌, ◌≤◌, ◌<◌, length, get_or, take, eqb};
+ghost use Rattle.model.specs.Lists.{only};
+ghost use Rattle.families.specs.Kin.{bytes};
+ghost use Rattle.families.specs.Sets.{wide, bit_of, packed, marked, Adds, listed, SetWritten};
+
+use super::WIDE;
+
+// The mark at i, as a number's lowest.
+fn bit(marks: &[u8], i: usize) -> u16
+    requires { i < length marks.now }
+    ensures { (result ≡ bit_of (get_or marks.now i 0)) × (result ≤ 1) }
+{
+    u16::from(marks[i] != 0)
+}
+
+// The marks from `at` on in one number, the first one lowest.
+fn pack(marks: &[u8], at: usize) -> u16
+    requires { at + wide ≤ length marks.now }
+    ensures { result ≡ packed marks.now at wide }
+{
+    let mut w = 0;
+    for i in (at..at + WIDE).rev() {
+        w = 2 * w + bit(marks, i);
+    }
+    w
+}
+
+// Writes the set of those that are marked.
+pub fn write_set(families: &mut [u16], at: usize, marks: &[u8])
+    requires { (at + wide ≤ length families.old) × (length marks.now ≡ bytes) }
+    ensures { SetWritten families.old families.new at marks.now }
+{
+    for j in 0..WIDE {
+        families[at + j] = pack(marks, WIDE * j);
+    }
+}
+
+// Writes d behind n members, if the lowest mark of w is set.
+fn put_lowest(members: &mut [u8], n: usize, d: usize, w: u16) -> usize
+    requires { (length members.old ≡ bytes) × (n < bytes) × (d < bytes) }
+    ensures { (result ≤ n + 1) × (take result members.new ≡ take n members.old ++ only (eqb (w % 2) 1) d) }
+{
+    if w % 2 == 1 {
+        members[n] = d as u8;
+        n + 1
+    } else {
+        n
+    }
+}
+
+// Writes those that are marked in a number behind `count` members, from `at` on.
+#[tactic(auto, using(crate::proofs::Marking::unpacking_went, crate::proofs::Marking::unpacking_empty, crate::proofs::Marking::unpacking_done))]
+fn unpack(members: &mut [u8], count: usize, at: usize, marks: u16) -> usize
+    requires { (length members.old ≡ bytes) × (count ≤ at) × (at + wide ≤ bytes) }
+    ensures { (result ≤ at + wide) × (take result members.new ≡ take count members.old ++ marked wide at marks) }
+{
+    let mut n = count;
+    let mut w = marks;
+    for d in at..at + WIDE {
+        if w == 0 {
+            return n;
+        }
+        n = put_lowest(members, n, d, w);
+        w /= 2;
+    }
+    n
+}
+
+// Writes those of the set at `at` to the front of `members`, in ascending order.
+#[tactic(auto, using(crate::proofs::Marking::listed_none, crate::proofs::Marking::listed_more))]
+pub fn list(families: &[u16], at: usize, members: &mut [u8]) -> usize
+    requires { (at + wide ≤ length families.now) × (length members.old ≡ bytes) }
+    ensures { (result ≤ bytes) × (take result members.new ≡ listed families.now at wide) }
+{
+    let mut n = 0;
+    for j in 0..WIDE {
+        n = unpack(members, n, WIDE * j, families[at + j]);
+    }
+    n
+}
+
+// Marks d, if the lowest mark of w is set.
+#[tactic(auto, using(crate::proofs::Uniting::adds_one))]
+fn mark_lowest(marks: &mut [u8], d: usize, w: u16)
+    requires { (length marks.old ≡ bytes) × (d < bytes) }
+    ensures { Adds marks.old marks.new (only (eqb (w % 2) 1) d) }
+{
+    if w % 2 == 1 {
+        marks[d] = 1;
+    }
+}
+
+// Marks those that are marked in a number, from `at` on. Like `unpack`: one loop for both, over a trait of what becomes of a mark, is longer than the two.
+fn mark_number(marks: &mut [u8], at: usize, x: u16)
+    requires { (length marks.old ≡ bytes) × (at + wide ≤ bytes) }
+    ensures { Adds marks.old marks.new (marked wide at x) }
+{
+    let mut w = x;
+    for d in at..at + WIDE {
+        if w == 0 {
+            return;
+        }
+        mark_lowest(marks, d, w);
+        w /= 2;
+    }
+}
+
+// Marks those of the set at `at`.
+pub fn mark_set(families: &[u16], at: usize, marks: &mut [u8])
+    requires { (at + wide ≤ length families.now) × (length marks.old ≡ bytes) }
+    ensures { Adds marks.old marks.new (listed families.now at wide) }
+{
+    for j in 0..WIDE {
+        mark_number(marks, WIDE * j, families[at + j]);
+    }
+}

@@ -1,0 +1,23 @@
+use Rattle.std.proofs.Common.{◌∙◌, arith}
+use borrow.Author.Tests.{ne_eqb}
+use Rattle.labels.proofs.Laws.{parts_same, parts_differ}
+use Rattle.names.proofs.FormFacts.{verb_inside, verb_label, verbs_alike}
+use Rattle.names.proofs.verbs.VerbNamed.alike.Goals as goal
+
+pub overflow_add-q : goal.overflow_add-q
+overflow_add-q c = let h = c.requires.1 in omega (arith, verb_inside _ _ h, verb_label _ _ h)
+
+pub byte-a-requires : goal.byte-a-requires
+byte-a-requires c = let h = c.requires.1 in omega (arith, verb_inside _ _ h, verb_label _ _ h)
+
+pub returns-then-n-b : goal.returns-then-n-b
+returns-then-n-b c =
+    let h = verb_label _ _ c.requires.1 in
+    verbs_alike _ _ _ _ (rw (← c.byte-a.ensures.0, ← c.byte.ensures.0, ← c.byte-b.ensures.0, ← c.byte-2.ensures.0)
+    (parts_same _ _ _ _ _ _ _ (omega arith) c.alike.ensures))
+
+pub returns-else-n-b : goal.returns-else-n-b
+returns-else-n-b c =
+    let h = verb_label _ _ c.requires.1 in
+    verbs_alike _ _ _ _ (rw (← c.byte-a.ensures.0, ← c.byte.ensures.0, ← c.byte-b.ensures.0, ← c.byte-2.ensures.0)
+    (ne_eqb _ _ c.if-n-b.false ∙ parts_differ _ _ _ _ _ _ (λ e. c.if-n-b.false (omega arith))))

@@ -1,0 +1,115 @@
+// A list of names, whatever they are: the form of each (3), and whether one is alike to an earlier one (4). The names before one are listed by
+// where they stand, and those that fall into one bucket are chained, so that only these are compared.
+ghost use Rattle.std.specs.Prelude.{◌≡◌, ◌≢◌, true, false, [], List, ℕ, Bool, ◌+◌, ◌<◌, ◌≤◌, length};
+ghost use Rattle.wire.specs.Budget.{farthest};
+ghost use Rattle.model.specs.Bytes.{byte_at};
+ghost use Rattle.model.specs.Lists.{any};
+ghost use Rattle.model.specs.Readings.{item_end, ends_by};
+ghost use Rattle.slices.specs.Items.{starts_at};
+ghost use Rattle.slices.specs.Steps.{step_of};
+ghost use Rattle.labels.specs.Hash.{buckets};
+ghost use Rattle.names.specs.Names.{name_by, names_by, name_list};
+ghost use Rattle.names.specs.Seeking.{Listed};
+
+use slices::{Reason, Refusal};
+
+// What a name is: an item led by its length byte.
+pub trait Named {
+    // the item at an offset is of right form
+    ghost form_at: { List ℕ → ℕ → Bool };
+
+    // an item is alike to one before it
+    ghost alike_at: { List ℕ → ℕ → ℕ → Bool };
+
+    // into which bucket an item falls
+    ghost bucket_at: { List ℕ → ℕ → ℕ };
+
+    // The item at `at`: its form. An item of right form ends by the end of the bytes.
+    fn form(s: &[u8], at: usize) -> bool
+        ensures form { result ≡ form_at s.now at }
+        ensures within { form_at s.now at ≡ true → at + 1 + byte_at s.now at ≤ length s.now };
+
+    // The item at q, of right form, is alike to that at p before it.
+    fn alike(s: &[u8], q: usize, p: usize) -> bool
+        requires { (item_end s.now p ≤ q) × (form_at s.now q ≡ true) }
+        ensures { result ≡ alike_at s.now q p };
+
+    // Into which bucket the item at `at` falls, which is of right form. No item of another bucket is alike to it.
+    fn bucket(s: &[u8], at: usize) -> usize
+        requires { form_at s.now at ≡ true }
+        ensures bucket { result ≡ bucket_at s.now at }
+        ensures below { result < buckets }
+        ensures alone { (p : ℕ) → bucket_at s.now p ≢ bucket_at s.now at → alike_at s.now at p ≡ false };
+}
+
+// One of the names that are listed is alike to that at q, which stands after them.
+fn seen<N: Named>(s: &[u8], q: usize, ats: &[usize], links: &[u16]) -> bool
+    requires { (N.form_at s.now q ≡ true)
+        × ((p k : ℕ) × Listed (item_end s.now) (N.bucket_at s.now) p k ats.now links.now × (ends_by (item_end s.now) k p ≤ q)) }
+    ensures { (p k : ℕ) → Listed (item_end s.now) (N.bucket_at s.now) p k ats.now links.now
+        → result ≡ any (N.alike_at s.now q) (starts_at (item_end s.now) k p) }
+{
+    let mut i = chains::head(links, N::bucket(s, q));
+    // a chain has no index to count: each entry has the number of the next
+    while i != 0 {
+        if N::alike(s, q, ats[i - 1]) {
+            return true;
+        }
+        i = chains::older(links, labels::BUCKETS, i);
+    }
+    false
+}
+
+// The name at `at`, after those that are listed.
+fn name<N: Named>(s: &[u8], at: usize, ats: &[usize], links: &[u16]) -> Result<usize, Refusal>
+    requires { (p k : ℕ) × Listed (item_end s.now) (N.bucket_at s.now) p k ats.now links.now × (ends_by (item_end s.now) k p ≡ at) }
+    ensures { (p k : ℕ) → Listed (item_end s.now) (N.bucket_at s.now) p k ats.now links.now
+        → step_of result ≡ name_by (N.form_at s.now) (N.alike_at s.now) (item_end s.now) (starts_at (item_end s.now) k p) at }
+{
+    if !N::form(s, at) {
+        return Err(Reason::Form.at(at));
+    }
+    if seen::<N>(s, at, ats, links) {
+        return Err(Reason::Repeated.at(at));
+    }
+    Ok(at + 1 + wire::byte(s, at))
+}
+
+// n names from `from` on, which are listed in their turn.
+fn names<N: Named>(
+    s: &[u8],
+    n: usize,
+    from: usize,
+    ats: &mut [usize],
+    links: &mut [u16],
+) -> Result<usize, Refusal>
+    requires { Listed (item_end s.now) (N.bucket_at s.now) from 0 ats.old links.old
+        × (n ≤ length ats.old) × (buckets + n < length links.old) × (n ≤ 65535) }
+    ensures { step_of result ≡ names_by (N.form_at s.now) (N.alike_at s.now) (item_end s.now) n [] from }
+{
+    let mut at = from;
+    for k in 0..n {
+        let end = name::<N>(s, at, ats, links)?;
+        ats[k] = at;
+        chains::add(links, labels::BUCKETS, k, N::bucket(s, at));
+        at = end;
+    }
+    Ok(at)
+}
+
+// A list of at most MOST names, whose count stands at p. A chain of names has a link for each, and one for "none".
+pub fn list<N: Named, const MOST: usize, const LINKS: usize>(
+    s: &[u8],
+    lowest: usize,
+    p: usize,
+) -> Result<usize, Refusal>
+    requires { (p ≤ farthest) × (MOST ≤ 65535) × (buckets + MOST < LINKS) × (LINKS ≤ 65535) }
+    ensures { step_of result ≡ name_list (N.form_at s.now) (N.alike_at s.now) (item_end s.now) s.now lowest MOST p }
+{
+    if !slices::count_right(s, lowest, MOST, p) {
+        return Err(Reason::Form.at(p));
+    }
+    let mut ats = [0; MOST];
+    let mut links = [0; LINKS];
+    names::<N>(s, wire::u16_at(s, p), p + 2, &mut ats, &mut links)
+}
