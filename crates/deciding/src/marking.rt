@@ -2,12 +2,11 @@
 ghost use Rattle.std.specs.Prelude.{◌≡◌, List, length};
 ghost use Rattle.model.specs.Syntax as syntax;
 ghost use Rattle.model.specs.Bytes.{bytes_at};
-ghost use Rattle.model.specs.Policies.{Accepted, policy_of, read_policy};
+ghost use Rattle.model.specs.Policies.{Accepted, policy_of};
 ghost use Rattle.model.specs.Deciding.{read};
 ghost use Rattle.model.specs.Decision.{slices};
 ghost use Rattle.demands.specs.Lookups.{marks_from, reach_of, whose_words};
-ghost use Rattle.policy.specs.Index.{handed_out};
-ghost use Rattle.policy.specs.declared.Answer.TheVariants as accepting;
+ghost use Rattle.policy.specs.Index.{HandsOut};
 ghost use Rattle.inputs.specs.Accepts.{Takes, Withdraws};
 ghost use Rattle.outcome.specs.Numbers.{refusal_of};
 
@@ -19,11 +18,9 @@ use policy::Index;
 fn mark(reach: &[u8], marks: &mut [u8])
     ensures { marks.new ≡ bytes_at (length marks.old) reach.now 0 }
 {
-    let mut i = 0;
-    while i < marks.len() {
-        marks[i] = wire::u8_or(reach, i);
-        i += 1;
-    }
+    let n = marks.len().min(reach.len());
+    marks[..n].copy_from_slice(&reach[..n]);
+    marks[n..].fill(0);
 }
 
 // All slices are accepted.
@@ -43,7 +40,7 @@ fn mark_reach(
 {
     let mut left = x.issuer_at;
     let n = super::left(&mut left, policy, x, h, withdrawals);
-    let reach = super::reached(policy, x, &left, n, request);
+    let reach = super::reached(policy, x, &left[..n], request);
     mark(&reach, marks);
 }
 
@@ -56,7 +53,7 @@ pub fn accepted(
     hierarchy: &[u8],
     marks: &mut [u8],
 ) -> Report
-    requires { (x ≡ handed_out (read_policy policy.now)) × (x.answer ≡ accepting.Accepted) }
+    requires { HandsOut policy.now x }
     ensures numbers { result
         ≡ refusal_of (whose_words (slices policy.now request.now withdrawals.now hierarchy.now)
         marks.old) }
@@ -68,14 +65,8 @@ pub fn accepted(
     match inputs::read(&kinds, &signatures, request, withdrawals, hierarchy) {
         Ok(h) => {
             mark_reach(policy, x, request, h, withdrawals, marks);
-            numbers::refused(0, 0, 0, 0, 0)
+            Report::default()
         }
-        Err(r) => numbers::refused(
-            r.refusal.reason.number(),
-            r.side.number(),
-            r.refusal.place,
-            0,
-            0,
-        ),
+        Err(r) => numbers::refused(r.side, r.refusal),
     }
 }

@@ -18,43 +18,18 @@ const ANSWERS: usize = 1024;
 
 // ---- files: no contract can say what is read
 
-// How many bytes one read put into a buffer, and whether it failed.
-#[derive(Clone, Copy)]
-struct Got {
-    failed: bool,
-    more: usize,
-}
-
-fn read_once(file: &mut impl Read, to: &mut [u8]) -> Got
-    ensures within { result.more ≤ length to.new }
-    ensures none { result.failed ≡ true → result.more ≡ 0 }
-{
-    match file.read(to) {
-        Ok(more) => Got {
-            failed: false,
-            more,
-        },
-        Err(_) => Got {
-            failed: true,
-            more: 0,
-        },
-    }
-}
-
-// The first bytes of an open file, as many as fit; none if a read fails, be it halfway.
+// The first bytes of an open file, as many as fit; none if a read fails, be it halfway: a file that cannot be read counts as empty, so no Result.
 fn read_whole(file: &mut impl Read, to: &mut [u8]) -> usize
     ensures { IsPrefixLen result to.new }
 {
     let mut n = 0;
+    // no range: a read says how far it came
     while n < to.len() {
-        let got = read_once(file, &mut to[n..]);
-        if got.failed {
-            return 0;
+        match file.read(&mut to[n..]) {
+            Ok(0) => return n,
+            Ok(more) => n += more,
+            Err(_) => return 0,
         }
-        if got.more == 0 {
-            return n;
-        }
-        n += got.more;
     }
     n
 }

@@ -12,8 +12,7 @@ use Rattle.model.proofs.OutcomeFacts.{sorted_length, Result, over, many, fine, r
 use Rattle.model.proofs.DecisionFacts.{rounds_facts}
 use Rattle.outcome.specs.Reported.{report_of}
 use Rattle.outcome.specs.declared.Outcome.{Outcome}
-use Rattle.outcome.specs.declared.Outcome.TheVariants.{Allow, Deny, PolicyRefused, RequestRefused, WithdrawalsRefused, HierarchyRefused}
-use Rattle.outcome.specs.declared.Outcome.TheVariants.{TooManyFacts, TooManyAnswers}
+use Rattle.outcome.specs.declared.Outcome.TheVariants.{Allow, Deny, Refused, TooManyFacts, TooManyAnswers}
 use Rattle.outcome.specs.Numbers.{numbers_of}
 use Rattle.outcome.specs.declared.Report as c
 
@@ -43,50 +42,35 @@ facts_most l = most_of (read_slices l.slices) l
 same_facts : (o : Outcome) (facts answers : List ℕ) → (report_of o [] []).facts ≡ (report_of o facts answers).facts
 same_facts (Allow f r a) facts answers = refl
 same_facts (Deny f r) facts answers = refl
-same_facts (PolicyRefused n p) facts answers = refl
-same_facts (RequestRefused n p) facts answers = refl
-same_facts (WithdrawalsRefused n p) facts answers = refl
-same_facts (HierarchyRefused n p) facts answers = refl
+same_facts (Refused side why) facts answers = refl
 same_facts TooManyFacts facts answers = refl
 same_facts (TooManyAnswers f r) facts answers = refl
 
 same_rounds : (o : Outcome) (facts answers : List ℕ) → (report_of o [] []).rounds ≡ (report_of o facts answers).rounds
 same_rounds (Allow f r a) facts answers = refl
 same_rounds (Deny f r) facts answers = refl
-same_rounds (PolicyRefused n p) facts answers = refl
-same_rounds (RequestRefused n p) facts answers = refl
-same_rounds (WithdrawalsRefused n p) facts answers = refl
-same_rounds (HierarchyRefused n p) facts answers = refl
+same_rounds (Refused side why) facts answers = refl
 same_rounds TooManyFacts facts answers = refl
 same_rounds (TooManyAnswers f r) facts answers = refl
 
 same_numbers : (o : Outcome) (facts answers : List ℕ) → numbers_of (report_of o [] []) ≡ numbers_of (report_of o facts answers)
 same_numbers (Allow f r a) facts answers = refl
 same_numbers (Deny f r) facts answers = refl
-same_numbers (PolicyRefused n p) facts answers = refl
-same_numbers (RequestRefused n p) facts answers = refl
-same_numbers (WithdrawalsRefused n p) facts answers = refl
-same_numbers (HierarchyRefused n p) facts answers = refl
+same_numbers (Refused side why) facts answers = refl
 same_numbers TooManyFacts facts answers = refl
 same_numbers (TooManyAnswers f r) facts answers = refl
 
 same_fact_buffer : (o : Outcome) (facts answers : List ℕ) → facts ≡ (report_of o facts answers).fact_buffer
 same_fact_buffer (Allow f r a) facts answers = refl
 same_fact_buffer (Deny f r) facts answers = refl
-same_fact_buffer (PolicyRefused n p) facts answers = refl
-same_fact_buffer (RequestRefused n p) facts answers = refl
-same_fact_buffer (WithdrawalsRefused n p) facts answers = refl
-same_fact_buffer (HierarchyRefused n p) facts answers = refl
+same_fact_buffer (Refused side why) facts answers = refl
 same_fact_buffer TooManyFacts facts answers = refl
 same_fact_buffer (TooManyAnswers f r) facts answers = refl
 
 same_answer_buffer : (o : Outcome) (facts answers : List ℕ) → answers ≡ (report_of o facts answers).answer_buffer
 same_answer_buffer (Allow f r a) facts answers = refl
 same_answer_buffer (Deny f r) facts answers = refl
-same_answer_buffer (PolicyRefused n p) facts answers = refl
-same_answer_buffer (RequestRefused n p) facts answers = refl
-same_answer_buffer (WithdrawalsRefused n p) facts answers = refl
-same_answer_buffer (HierarchyRefused n p) facts answers = refl
+same_answer_buffer (Refused side why) facts answers = refl
 same_answer_buffer TooManyFacts facts answers = refl
 same_answer_buffer (TooManyAnswers f r) facts answers = refl
 

@@ -1,4 +1,5 @@
 // The engine's archive for C (host/secpal.h): an export for each call, which hands it on to the engine's function of that name and states its clauses again.
+// Where there is none a call gives 0 or 0xFFFFFFFF: C has numbers alone.
 #![tactic(auto)]
 
 ghost use Rattle.std.specs.Prelude.{◌≡◌, length};

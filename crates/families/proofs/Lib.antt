@@ -2,7 +2,7 @@ pub mod Holding
 pub mod Children
 pub mod Scanning
 pub mod Growing
-pub mod Entries
+pub mod Entered
 pub mod Marking
 pub mod Owning
 pub mod Keeping

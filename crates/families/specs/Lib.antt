@@ -1,3 +1,4 @@
 pub mod Laid
 pub mod Kin
 pub mod Sets
+pub mod Members

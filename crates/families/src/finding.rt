@@ -5,26 +5,10 @@ ghost use Rattle.model.specs.Lists.{each};
 ghost use Rattle.rules.specs.Families.{most};
 ghost use Rattle.families.specs.Laid.{buckets, links_in, Entered};
 ghost use Rattle.families.specs.Kin.{bytes, child_in, family_in};
-ghost use Rattle.families.specs.Sets.{Marks, Adds, owner_in, set_at, FamilyWritten, FoundFrom, Families};
+ghost use Rattle.families.specs.Sets.{Marks, Adds, set_at, FamilyWritten, FoundFrom, Families};
 
-use super::{BUCKETS, BYTES, CHILD, ENTRY, PARENT, WIDE, bucket, is_in, sets, walking};
-
-// The newest entry for a verb and position and a parent. Its set has their family.
-pub fn owner(families: &[u16], entries: usize, key: u16, parent: u16) -> Option<usize>
-    requires { Entered families.now entries }
-    ensures { result ≡ owner_in families.now entries key parent }
-{
-    let at = ENTRY * entries;
-    let mut i = chains::head_in(families, at, bucket(key, parent));
-    // a chain has no index to count: each entry has the number of the next
-    while i != 0 {
-        if is_in(families, i - 1, key, parent) {
-            return Some(i - 1);
-        }
-        i = chains::older_in(families, at, BUCKETS, i);
-    }
-    None
-}
+use super::entries::Entries;
+use super::{BUCKETS, BYTES, ENTRY, PARENT, WIDE, sets};
 
 // Where the set of entry k stands: behind the entries and their chains.
 pub fn set_at(entries: usize, k: usize) -> usize
@@ -35,88 +19,68 @@ pub fn set_at(entries: usize, k: usize) -> usize
 }
 
 // Finds the family of a verb, position and parent by walking it, and writes it to the set of entry k.
+// Slice and count stand side by side in what writes a set: the entries are lent as one for each look, and not while a set is written.
 fn find_walking(families: &mut [u16], entries: usize, k: usize, key: u16, parent: u16)
     requires { Entered families.old entries × (20 * entries + buckets < length families.old) × (k < entries) × (parent < bytes) }
     ensures { FamilyWritten families.old families.new entries k key parent }
 {
-    let mut members = [0u8; BYTES];
-    let mut marks = [0u8; BYTES];
-    walking::descendants(families, entries, key, parent, &mut members, &mut marks);
-    sets::write_set(families, set_at(entries, k), &marks);
+    let laid = Entries {
+        families: &*families,
+        count: entries,
+    };
+    let family = laid.family(key, parent);
+    sets::write_set(families, set_at(entries, k), &family.marks);
 }
 
-// Marks the family of d, if it is found already: where the sets behind that of entry k are, or d has no children.
-fn take_in(families: &[u16], entries: usize, k: usize, key: u16, d: u16, marks: &mut [u8]) -> bool
-    requires { FoundFrom families.now entries (k + 1) × (k < entries) × (d < bytes) × (length marks.old ≡ bytes) }
-    ensures { result ≡ true → Adds marks.old marks.new (family_in families.now entries key d) }
-{
-    match owner(families, entries, key, d) {
-        None => {
-            marks[d as usize] = 1;
+// That the sets behind entry k's are found is how far the work is, and no fact about the entries, so each function asks it.
+impl Entries<'_> {
+    // Marks the family of d, if it is found already: where the sets behind that of entry k are, or d has no children.
+    fn take_in(&self, k: usize, key: u16, d: u16, marks: &mut [u8; BYTES]) -> bool
+        requires { FoundFrom self.now.families.now self.now.count (k + 1) × (k < self.now.count) × (d < bytes) }
+        ensures { result ≡ true → Adds marks.old marks.new (family_in self.now.families.now self.now.count key d) }
+    {
+        match self.owner(key, d) {
+            None => {
+                marks[d as usize] = 1;
+                true
+            }
+            Some(i) => {
+                if i <= k {
+                    return false;
+                }
+                sets::mark_set(self.families, set_at(self.count, i), marks);
+                true
+            }
+        }
+    }
+
+    // The same for the child of entry e, if the entry has this parent.
+    fn take_child(&self, k: usize, key: u16, parent: u16, e: usize, marks: &mut [u8; BYTES]) -> bool
+        requires { FoundFrom self.now.families.now self.now.count (k + 1) × (k < self.now.count) × (e < self.now.count) }
+        ensures { result ≡ true → Adds marks.old marks.new
+            (each (child_in self.now.families.now key parent e) (family_in self.now.families.now self.now.count key)) }
+    {
+        if self.is_in(e, key, parent) {
+            self.take_in(k, key, self.child(e), marks)
+        } else {
             true
         }
-        Some(i) => {
-            if i <= k {
+    }
+
+    // Marks the family of a parent: itself and the families of its children, if they are all found already.
+    fn unite(&self, k: usize, key: u16, parent: u16, marks: &mut [u8; BYTES]) -> bool
+        requires { FoundFrom self.now.families.now self.now.count (k + 1) × (k < self.now.count) × (parent < most) ×
+            ((i : ℕ) → get_or marks.old i 0 ≡ 0) }
+        ensures { result ≡ true → Marks marks.new (family_in self.now.families.now self.now.count key parent) }
+    {
+        marks[parent as usize] = 1;
+        for i in self.under(key, parent) {
+            if !self.take_child(k, key, parent, i - 1, marks) {
                 return false;
             }
-            sets::mark_set(families, set_at(entries, i), marks);
-            true
         }
-    }
-}
-
-// The same for the child of entry e, if the entry has this parent.
-fn take_child(
-    families: &[u16],
-    entries: usize,
-    k: usize,
-    key: u16,
-    parent: u16,
-    e: usize,
-    marks: &mut [u8],
-) -> bool
-    requires { FoundFrom families.now entries (k + 1) × (k < entries) × (e < entries) × (length marks.old ≡ bytes) }
-    ensures { result ≡ true → Adds marks.old marks.new
-        (each (child_in families.now key parent e) (family_in families.now entries key)) }
-{
-    if is_in(families, e, key, parent) {
-        take_in(
-            families,
-            entries,
-            k,
-            key,
-            families[ENTRY * e + CHILD],
-            marks,
-        )
-    } else {
         true
     }
-}
-
-// Marks the family of a parent: itself and the families of its children, if they are all found already.
-fn unite(
-    families: &[u16],
-    entries: usize,
-    k: usize,
-    key: u16,
-    parent: u16,
-    marks: &mut [u8],
-) -> bool
-    requires { FoundFrom families.now entries (k + 1) × (k < entries) × (parent < most) × (length marks.old ≡ bytes) ×
-        ((i : ℕ) → get_or marks.old i 0 ≡ 0) }
-    ensures { result ≡ true → Marks marks.new (family_in families.now entries key parent) }
-{
-    let at = ENTRY * entries;
-    marks[parent as usize] = 1;
-    let mut i = chains::head_in(families, at, bucket(key, parent));
-    // a chain has no index to count: each entry has the number of the next
-    while i != 0 {
-        if !take_child(families, entries, k, key, parent, i - 1, marks) {
-            return false;
-        }
-        i = chains::older_in(families, at, BUCKETS, i);
-    }
-    true
 }
 
 // Finds the family of a verb, position and parent, and writes it to the set of entry k. In a hierarchy whose entries go from parents to children the families
@@ -126,7 +90,11 @@ fn find(families: &mut [u16], entries: usize, k: usize, key: u16, parent: u16)
     ensures { FamilyWritten families.old families.new entries k key parent }
 {
     let mut marks = [0u8; BYTES];
-    if unite(families, entries, k, key, parent, &mut marks) {
+    let laid = Entries {
+        families: &*families,
+        count: entries,
+    };
+    if laid.unite(k, key, parent, &mut marks) {
         sets::write_set(families, set_at(entries, k), &marks);
     } else {
         find_walking(families, entries, k, key, parent);
@@ -140,7 +108,11 @@ fn find_one(families: &mut [u16], entries: usize, k: usize)
 {
     let key = families[ENTRY * k];
     let parent = families[ENTRY * k + PARENT];
-    if owner(families, entries, key, parent) == Some(k) {
+    let laid = Entries {
+        families: &*families,
+        count: entries,
+    };
+    if laid.owner(key, parent) == Some(k) {
         find(families, entries, k, key, parent);
     }
 }

@@ -26,7 +26,7 @@ fn lay_one(families: &mut [u16], hierarchy: &[u8], entries: usize, k: usize)
     let key = POSITIONS * e.verb + e.position;
     write(families, k, key, e.parent, e.child);
     let b = bucket(key, e.parent);
-    chains::add_in(families, ENTRY * entries, BUCKETS, k, b);
+    chains::add(&mut families[ENTRY * entries..], BUCKETS, k, b);
 }
 
 // Lays out the entries, in the order in which they stand in the hierarchy.

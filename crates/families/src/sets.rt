@@ -4,19 +4,20 @@ ghost use Rattle.model.specs.Lists.{only};
 ghost use Rattle.families.specs.Kin.{bytes};
 ghost use Rattle.families.specs.Sets.{wide, bit_of, packed, marked, Adds, listed, SetWritten};
 
-use super::WIDE;
+use super::{BYTES, WIDE};
 
+// That a place or a mark is in its range is about the number, so each function asks it.
 // The mark at i, as a number's lowest.
-fn bit(marks: &[u8], i: usize) -> u16
-    requires { i < length marks.now }
+fn bit(marks: &[u8; BYTES], i: usize) -> u16
+    requires { i < bytes }
     ensures { (result ≡ bit_of (get_or marks.now i 0)) × (result ≤ 1) }
 {
     u16::from(marks[i] != 0)
 }
 
 // The marks from `at` on in one number, the first one lowest.
-fn pack(marks: &[u8], at: usize) -> u16
-    requires { at + wide ≤ length marks.now }
+fn pack(marks: &[u8; BYTES], at: usize) -> u16
+    requires { at + wide ≤ bytes }
     ensures { result ≡ packed marks.now at wide }
 {
     let mut w = 0;
@@ -27,8 +28,8 @@ fn pack(marks: &[u8], at: usize) -> u16
 }
 
 // Writes the set of those that are marked.
-pub fn write_set(families: &mut [u16], at: usize, marks: &[u8])
-    requires { (at + wide ≤ length families.old) × (length marks.now ≡ bytes) }
+pub fn write_set(families: &mut [u16], at: usize, marks: &[u8; BYTES])
+    requires { (at + wide ≤ length families.old) }
     ensures { SetWritten families.old families.new at marks.now }
 {
     for j in 0..WIDE {
@@ -36,9 +37,9 @@ pub fn write_set(families: &mut [u16], at: usize, marks: &[u8])
     }
 }
 
-// Writes d behind n members, if the lowest mark of w is set.
-fn put_lowest(members: &mut [u8], n: usize, d: usize, w: u16) -> usize
-    requires { (length members.old ≡ bytes) × (n < bytes) × (d < bytes) }
+// Writes d behind n members, if the lowest mark of w is set. The count stands beside the array, here and below: the rest is what is written into.
+fn put_lowest(members: &mut [u8; BYTES], n: usize, d: usize, w: u16) -> usize
+    requires { (n < bytes) × (d < bytes) }
     ensures { (result ≤ n + 1) × (take result members.new ≡ take n members.old ++ only (eqb (w % 2) 1) d) }
 {
     if w % 2 == 1 {
@@ -51,8 +52,8 @@ fn put_lowest(members: &mut [u8], n: usize, d: usize, w: u16) -> usize
 
 // Writes those that are marked in a number behind `count` members, from `at` on.
 #[tactic(auto, using(crate::proofs::Marking::unpacking_went, crate::proofs::Marking::unpacking_empty, crate::proofs::Marking::unpacking_done))]
-fn unpack(members: &mut [u8], count: usize, at: usize, marks: u16) -> usize
-    requires { (length members.old ≡ bytes) × (count ≤ at) × (at + wide ≤ bytes) }
+fn unpack(members: &mut [u8; BYTES], count: usize, at: usize, marks: u16) -> usize
+    requires { (count ≤ at) × (at + wide ≤ bytes) }
     ensures { (result ≤ at + wide) × (take result members.new ≡ take count members.old ++ marked wide at marks) }
 {
     let mut n = count;
@@ -69,8 +70,8 @@ fn unpack(members: &mut [u8], count: usize, at: usize, marks: u16) -> usize
 
 // Writes those of the set at `at` to the front of `members`, in ascending order.
 #[tactic(auto, using(crate::proofs::Marking::listed_none, crate::proofs::Marking::listed_more))]
-pub fn list(families: &[u16], at: usize, members: &mut [u8]) -> usize
-    requires { (at + wide ≤ length families.now) × (length members.old ≡ bytes) }
+pub fn list(families: &[u16], at: usize, members: &mut [u8; BYTES]) -> usize
+    requires { (at + wide ≤ length families.now) }
     ensures { (result ≤ bytes) × (take result members.new ≡ listed families.now at wide) }
 {
     let mut n = 0;
@@ -82,8 +83,8 @@ pub fn list(families: &[u16], at: usize, members: &mut [u8]) -> usize
 
 // Marks d, if the lowest mark of w is set.
 #[tactic(auto, using(crate::proofs::Uniting::adds_one))]
-fn mark_lowest(marks: &mut [u8], d: usize, w: u16)
-    requires { (length marks.old ≡ bytes) × (d < bytes) }
+fn mark_lowest(marks: &mut [u8; BYTES], d: usize, w: u16)
+    requires { (d < bytes) }
     ensures { Adds marks.old marks.new (only (eqb (w % 2) 1) d) }
 {
     if w % 2 == 1 {
@@ -92,8 +93,8 @@ fn mark_lowest(marks: &mut [u8], d: usize, w: u16)
 }
 
 // Marks those that are marked in a number, from `at` on. Like `unpack`: one loop for both, over a trait of what becomes of a mark, is longer than the two.
-fn mark_number(marks: &mut [u8], at: usize, x: u16)
-    requires { (length marks.old ≡ bytes) × (at + wide ≤ bytes) }
+fn mark_number(marks: &mut [u8; BYTES], at: usize, x: u16)
+    requires { (at + wide ≤ bytes) }
     ensures { Adds marks.old marks.new (marked wide at x) }
 {
     let mut w = x;
@@ -107,8 +108,8 @@ fn mark_number(marks: &mut [u8], at: usize, x: u16)
 }
 
 // Marks those of the set at `at`.
-pub fn mark_set(families: &[u16], at: usize, marks: &mut [u8])
-    requires { (at + wide ≤ length families.now) × (length marks.old ≡ bytes) }
+pub fn mark_set(families: &[u16], at: usize, marks: &mut [u8; BYTES])
+    requires { (at + wide ≤ length families.now) }
     ensures { Adds marks.old marks.new (listed families.now at wide) }
 {
     for j in 0..WIDE {

@@ -10,7 +10,7 @@ ghost use Rattle.phrases.specs.Tables.{Tables};
 ghost use Rattle.slices.specs.Steps.{step_of};
 ghost use Rattle.slices.specs.Lists.{count_of};
 ghost use Rattle.hierarchy.specs.Links.{entry_at, told};
-ghost use Rattle.hierarchy.specs.Reading.{arity_is, kinds_are, fits_by, entry_by};
+ghost use Rattle.hierarchy.specs.Reading.{fits_by, entry_by};
 
 use limits::HEADER;
 use phrases::ROW;
@@ -37,33 +37,19 @@ struct Entries<'a> {
 }
 
 impl Entries<'_> {
-    // "an entry for verb 0, for a position 0 or past the verb's arity": none of these.
-    fn arity_is(&self, hierarchy: &[u8], at: usize) -> bool
-        requires { at ≤ longest }
-        ensures { result ≡ arity_is self.now.signatures.now hierarchy.now at }
-    {
-        let verb = wire::byte_or(hierarchy, at);
-        let position = wire::byte_or(hierarchy, at + POSITION);
-        verb != 0 && position != 0 && position < wire::byte_or(self.signatures, ROW * verb)
-    }
-
-    // Parent and child are constants of the parameter's kind.
-    fn kinds_are(&self, hierarchy: &[u8], at: usize) -> bool
-        requires { at ≤ longest }
-        ensures { result ≡ kinds_are self.now.kinds.now self.now.signatures.now hierarchy.now at }
-    {
-        let parameter = ROW * wire::byte_or(hierarchy, at)
-            + wire::byte_or(hierarchy, at + POSITION);
-        let kind = wire::byte_or(self.signatures, parameter);
-        wire::byte_or(self.kinds, wire::u16_or(hierarchy, at + PARENT)) == kind
-            && wire::byte_or(self.kinds, wire::u16_or(hierarchy, at + CHILD)) == kind
-    }
-
+    // "an entry for verb 0, for a position 0 or past the verb's arity": none of these. And parent and child are constants of the parameter's kind.
     fn fits(&self, hierarchy: &[u8], at: usize) -> bool
         requires { at ≤ longest }
         ensures { result ≡ fits_by self.now.kinds.now self.now.signatures.now hierarchy.now at }
     {
-        self.arity_is(hierarchy, at) && self.kinds_are(hierarchy, at)
+        let verb = wire::byte_or(hierarchy, at);
+        let position = wire::byte_or(hierarchy, at + POSITION);
+        let kind = wire::byte_or(self.signatures, ROW * verb + position);
+        verb != 0
+            && position != 0
+            && position < wire::byte_or(self.signatures, ROW * verb)
+            && wire::byte_or(self.kinds, wire::u16_or(hierarchy, at + PARENT)) == kind
+            && wire::byte_or(self.kinds, wire::u16_or(hierarchy, at + CHILD)) == kind
     }
 }
 

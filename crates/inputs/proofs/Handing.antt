@@ -17,26 +17,25 @@ use Rattle.model.proofs.DecisionFacts.{of_slices, on_policy}
 use Rattle.demands.specs.Demands.{Call}
 use Rattle.wire.specs.Budget.{longest}
 use Rattle.phrases.specs.Tables.{Tables}
-use Rattle.policy.specs.Index as policies
-use Rattle.policy.specs.Index.{index_of}
+use Rattle.policy.specs.Index.{index_of, HandsOut}
 use Rattle.policy.specs.declared.Index.{Index}
-use Rattle.policy.specs.declared.Answer.TheVariants as answered
+use Rattle.policy.proofs.PolicyFacts.{accepted_by, index_got}
 use Rattle.program.proofs.Accepted.{accepted_known}
-use Rattle.program.proofs.Ready.{accepted_by}
 use Rattle.request.specs.Requests as requests
 use Rattle.slices.specs.Steps.{number_of}
-use Rattle.inputs.specs.Handed.{side_of, said, handed_out, after_policy}
+use Rattle.slices.specs.Sides.{side_of}
+use Rattle.slices.specs.declared.sides.Refused.{Refused}
+use Rattle.inputs.specs.Handed.{said, handed_out, after_policy}
 use Rattle.inputs.specs.Accepts.{Hands}
 use Rattle.inputs.specs.declared.Handed.{Handed}
-use Rattle.inputs.specs.declared.Refused.{Refused}
 
 -- ---- an accepted policy's tables, in the words of the reader's index
 
-pub tables : (policy : List ℕ) (A : Accepted) (e : ℕ) → read_policy policy ≡ got A e → (x : Index) → x ≡ policies.handed_out (read_policy policy)
+pub tables : (policy : List ℕ) (A : Accepted) (e : ℕ) → read_policy policy ≡ got A e → (x : Index) → HandsOut policy x
     → Tables (policy_of A).constants (policy_of A).verbs x.kinds x.signatures
-unfolding policies.handed_out index_of
+unfolding index_of
 tables policy A e r x i =
-    subst (λ (x : Index). Tables (policy_of A).constants (policy_of A).verbs x.kinds x.signatures) (sym (i ∙ ap policies.handed_out r))
+    subst (λ (x : Index). Tables (policy_of A).constants (policy_of A).verbs x.kinds x.signatures) (sym (index_got (read_policy policy) x i A e r))
     (accepted_known policy A e r).tables
 
 -- ---- what was read, from what was handed out
@@ -91,11 +90,11 @@ module _ (P : Policy) where
 
 -- ---- under an accepted policy
 
-module _ (policy request withdrawals hierarchy : List ℕ) (x : Index) (i : x ≡ policies.handed_out (read_policy policy)) (a : x.answer ≡ answered.Accepted)
+module _ (policy request withdrawals hierarchy : List ℕ) (x : Index) (i : HandsOut policy x)
     (z : Result Handed Refused) (means : (P : Policy) → Tables P.constants P.verbs x.kinds x.signatures
     → said z ≡ handed_out (after_policy P request withdrawals hierarchy)) where
   policy_got : (A : Accepted) × (e : ℕ) × (read_policy policy ≡ got A e)
-  policy_got = accepted_by policy x i a
+  policy_got = accepted_by (read_policy policy) x i
 
   abbrev A : Accepted
   A = policy_got.0

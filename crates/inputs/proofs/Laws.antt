@@ -13,10 +13,11 @@ use Rattle.slices.specs.Lists.{count_of}
 use Rattle.request.specs.Requests as requests
 use Rattle.request.specs.declared.Request.{Request}
 use Rattle.slices.specs.declared.Refusal.{Refusal}
-use Rattle.inputs.specs.Handed.{on_side, handed_out, after_policy}
+use Rattle.slices.specs.Sides.{on_side}
+use Rattle.slices.specs.declared.sides.Refused.{Refused}
+use Rattle.slices.specs.declared.sides.Side.{Side}
+use Rattle.inputs.specs.Handed.{handed_out, after_policy}
 use Rattle.inputs.specs.declared.Handed.{Handed}
-use Rattle.inputs.specs.declared.Refused.{Refused}
-use Rattle.inputs.specs.declared.Side.{Side}
 
 -- ---- entries, from their count
 

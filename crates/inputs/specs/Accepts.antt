@@ -6,7 +6,7 @@ use Rattle.model.specs.Policies.{Accepted, policy_of, read_policy}
 use Rattle.model.specs.Nodes.{read_request}
 use Rattle.model.specs.Entries.{read_withdrawals}
 use Rattle.wire.specs.Budget.{longest}
-use Rattle.policy.specs.Index as policies
+use Rattle.policy.specs.Index.{HandsOut}
 use Rattle.policy.specs.declared.Index.{Index}
 use Rattle.request.specs.Requests as requests
 use Rattle.request.specs.declared.Request.{Request}
@@ -16,7 +16,7 @@ use Rattle.inputs.specs.declared.Handed.{Handed}
 pub record Accepts (policy request : List ℕ) (x : Index) (A : Accepted) (q : syntax.Request) : Type 0 where
   pub end : ℕ
   pub read : read_policy policy ≡ got A end
-  pub index : x ≡ policies.handed_out (read_policy policy)
+  pub index : HandsOut policy x
   pub last : ℕ
   pub asked : read_request (policy_of A).constants (policy_of A).verbs request ≡ got q last
 

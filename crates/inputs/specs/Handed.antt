@@ -8,11 +8,9 @@ use Rattle.model.specs.Deciding.{read}
 use Rattle.model.specs.Decision.{Taken, accepted, refused_on, sided}
 use Rattle.request.specs.Requests as requests
 use Rattle.slices.specs.Steps.{number_of}
-use Rattle.slices.specs.declared.Refusal.{Refusal}
+use Rattle.slices.specs.Sides.{side_of}
+use Rattle.slices.specs.declared.sides.Refused.{Refused}
 use Rattle.inputs.specs.declared.Handed.{Handed}
-use Rattle.inputs.specs.declared.Refused.{Refused}
-use Rattle.inputs.specs.declared.Side.{Side}
-use Rattle.inputs.specs.declared.Side.TheVariants as sides
 
 -- ---- THE PROMISE: what the slices say under an accepted policy, or "a refusal's number, side and place", as the code gives it
 
@@ -23,17 +21,6 @@ handed_out (accepted R) = Ok (record {
   links = length R.hierarchy;
 })
 handed_out (refused_on n side p) = Err (n, side, p)
-
--- a slice's number
-abbrev pub side_of : Side → ℕ
-side_of sides.Request = 2
-side_of sides.Withdrawals = 3
-side_of sides.Hierarchy = 4
-
--- what a slice's reader says, with its side
-abbrev pub on_side : {A : Type 0} → Side → Result A Refusal → Result A Refused
-on_side side (Ok x) = Ok x
-on_side side (Err r) = Err (record { side = side; refusal = r })
 
 -- what the code's result says
 abbrev pub said : Result Handed Refused → Result Handed (ℕ × ℕ × ℕ)

@@ -5,46 +5,10 @@ ghost use Rattle.std.specs.Prelude.{◌≡◌, ℕ, ◌≤◌, length, IfOk};
 ghost use Rattle.model.specs.Syntax as syntax;
 ghost use Rattle.wire.specs.Budget.{longest};
 ghost use Rattle.phrases.specs.Tables.{Tables};
-ghost use Rattle.inputs.specs.Handed.{side_of, on_side, said, handed_out, after_policy};
+ghost use Rattle.inputs.specs.Handed.{said, handed_out, after_policy};
 
 use request::Request;
-use slices::Refusal;
-
-// The slices, by the numbers of docs/FORMAT.md.
-#[derive(Clone, Copy, PartialEq, Eq)]
-pub enum Side {
-    Request = 2,
-    Withdrawals,
-    Hierarchy,
-}
-
-// A refusal, and of which slice.
-#[derive(Clone, Copy, PartialEq, Eq)]
-pub struct Refused {
-    pub side: Side,
-    pub refusal: Refusal,
-}
-
-impl Side {
-    // What the reader of this slice says.
-    fn says<T>(self, read: Result<T, Refusal>) -> Result<T, Refused>
-        ensures { result ≡ on_side self read }
-    {
-        match read {
-            Ok(x) => Ok(x),
-            Err(refusal) => Err(Refused {
-                side: self,
-                refusal,
-            }),
-        }
-    }
-
-    pub fn number(self) -> u8
-        ensures { (result ≡ side_of self) × (1 ≤ result) × (result ≤ 4) }
-    {
-        self as u8
-    }
-}
+use slices::{Refused, Side};
 
 // What the slices say that a decision goes by: the request as its reader hands it out, and how many entries the others have.
 #[derive(Clone, Copy)]

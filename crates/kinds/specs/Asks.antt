@@ -1,33 +1,33 @@
 -- What the demands of an item ask of the kinds, ask by ask.
-use Rattle.std.specs.Prelude.{ℕ, ◌+◌, ◌≤◌, ◌==◌, ◌||◌, nat_lt, if◌then◌else◌}
+use Rattle.std.specs.Prelude.{ℕ, ◌≤◌, ◌==◌, nat_lt, if◌then◌else◌, Option, Some, None, option_map}
 use mathlib.Core.List.{List, [], ◌∷◌, ◌++◌, map, Memᴰ}
 use Rattle.model.specs.Limits.{max_operator, quantity}
 use Rattle.model.specs.Lists.{each}
 use Rattle.model.specs.Syntax.{Expr, con, var, today, Constraint, Constant}
 use Rattle.model.specs.Kinds.{Demands, kind_at}
+use Rattle.limits.specs.declared.Kind.TheVariants.{Thing, Day}
+use Rattle.limits.specs.Kinds.{kind_of}
+use Rattle.kinds.specs.declared.Term.{Term}
+use Rattle.kinds.specs.declared.Term.TheVariants.{Variable, Any}
 use Rattle.kinds.specs.Cells.{Ask, same, number}
 
 -- ---- terms
 
 -- anything of kind k; kind 0 is that of a number with no constant
-abbrev pub kind_term : ℕ → ℕ
-kind_term k = if nat_lt k 1 || nat_lt 4 k then 12 else k + 7
-
--- variable v: there are eight
-abbrev pub var_term : ℕ → ℕ
-var_term v = if nat_lt v 8 then v else 12
+abbrev pub kind_term : ℕ → Option Term
+kind_term k = option_map Any (kind_of k)
 
 -- an expression in a constraint
-unfoldable pub term_of : List Constant → Expr → ℕ
+unfoldable pub term_of : List Constant → Expr → Option Term
 term_of cs (con c) = kind_term (kind_at cs c)
-term_of cs (var v) = var_term v
-term_of cs today = 10
+term_of cs (var v) = Some (Variable v)
+term_of cs today = Some (Any Day)
 
 -- and in a place of a fact: "today (kind day, in constraints only)"
-unfoldable pub place_term : List Constant → Expr → ℕ
+unfoldable pub place_term : List Constant → Expr → Option Term
 place_term cs (con c) = kind_term (kind_at cs c)
-place_term cs (var v) = var_term v
-place_term cs today = 12
+place_term cs (var v) = Some (Variable v)
+place_term cs today = None
 
 -- ---- asks
 
@@ -36,12 +36,12 @@ abbrev pub ask_place : List Constant → ℕ × Expr → Ask
 ask_place cs p = same (place_term cs p.1) (kind_term p.0)
 
 -- what operator op asks beyond operands of one kind, l being the left: 3 days or quantities; 4 things; 5 days
-unfoldable pub operator_asks : ℕ → ℕ → List Ask
+unfoldable pub operator_asks : ℕ → Option Term → List Ask
 operator_asks op l =
     if nat_lt op 3 then []
     else if op == 3 then number l ∷ []
-    else if op == 4 then same l 9 ∷ []
-    else same l 10 ∷ []
+    else if op == 4 then same l (Some (Any Thing)) ∷ []
+    else same l (Some (Any Day)) ∷ []
 
 unfoldable pub ask_test : List Constant → Constraint → List Ask
 ask_test cs c = same (term_of cs c.left) (term_of cs c.right) ∷ operator_asks c.op (term_of cs c.left)

@@ -1,37 +1,45 @@
 // The kinds of the eight variables of an assertion or a request, as far as they are settled.
 #![tactic(auto)]
 
-ghost use Rattle.std.specs.Prelude.{◌≡◌, ◌<◌, ◌≤◌};
-ghost use Rattle.kinds.specs.Cells.{renamed, relabel, cell_of, settled, merged, counted, alike, numbered};
+ghost use Rattle.std.specs.Prelude.{◌≡◌};
+ghost use Rattle.kinds.specs.Cells.{nothing, renamed, relabel, cell_of, is_counted, joined, merged, counted, alike, numbered};
 
-use limits::VARIABLES;
+use limits::{Kind, VARIABLES};
 
-// A term is a variable's number, anything of a kind, or no fit.
-pub const ANY_PRINCIPAL: u8 = VARIABLES as u8;
+// What stands in a place: a variable, or anything of a kind.
+#[derive(Clone, Copy, PartialEq, Eq)]
+pub enum Term {
+    Variable(usize),
+    Any(Kind),
+}
 
-pub const ANY_THING: u8 = ANY_PRINCIPAL + 1;
-
-pub const ANY_DAY: u8 = ANY_PRINCIPAL + 2;
-
-pub const ANY_QUANTITY: u8 = ANY_PRINCIPAL + 3;
-
-pub const NO_FIT: u8 = ANY_PRINCIPAL + 4;
-
-// A cell is the variable that leads its class, a kind's term, or this and the variable that leads a class of days or quantities.
-const OPEN_NUMBER: u8 = NO_FIT;
+// What is known of a variable's kind: it is in a class, settled, or in a class of days or quantities. A class goes by the variable that leads it.
+#[derive(Clone, Copy, PartialEq, Eq)]
+pub enum Cell {
+    Leads(u8),
+    Settled(Kind),
+    Counted(u8),
+}
 
 // A cell for each variable.
-pub type Cells = [u8; VARIABLES];
+pub type Cells = [Cell; VARIABLES];
+
+// Nothing is settled yet.
+pub fn nothing() -> Cells
+    ensures { result ≡ nothing }
+{
+    [0, 1, 2, 3, 4, 5, 6, 7].map(Cell::Leads)
+}
 
 // A cell c, after a has become b.
-fn renamed(c: u8, a: u8, b: u8) -> u8
+fn renamed(c: Cell, a: Cell, b: Cell) -> Cell
     ensures { result ≡ renamed a b c }
 {
     if c == a { b } else { c }
 }
 
 // Every cell a becomes b.
-fn relabel(t: Cells, a: u8, b: u8) -> Cells
+fn relabel(t: Cells, a: Cell, b: Cell) -> Cells
     ensures { result ≡ relabel t a b }
 {
     let mut u = t;
@@ -42,77 +50,68 @@ fn relabel(t: Cells, a: u8, b: u8) -> Cells
 }
 
 // The cell of a term.
-fn cell_of(t: Cells, x: u8) -> u8
+fn cell_of(t: Cells, x: Term) -> Option<Cell>
     ensures { result ≡ cell_of t x }
 {
-    if x < ANY_PRINCIPAL { t[x as usize] } else { x }
+    match x {
+        Term::Variable(v) => t.get(v).copied(),
+        Term::Any(kind) => Some(Cell::Settled(kind)),
+    }
 }
 
-// Cells a and b, two kinds or classes of days or quantities, become one.
-#[tactic(auto, unfolding(crate::specs::Cells::settled))]
-fn settled(t: Cells, a: u8, b: u8) -> Option<Cells>
-    ensures { result ≡ settled t a b }
+// A cell of days or quantities.
+fn is_counted(c: Cell) -> bool
+    ensures { result ≡ is_counted c }
 {
-    if a < ANY_DAY || b < ANY_DAY {
-        None
-    } else if ANY_QUANTITY < a {
-        Some(relabel(t, a, b))
-    } else if ANY_QUANTITY < b {
-        Some(relabel(t, b, a))
-    } else {
-        None
+    match c {
+        Cell::Leads(_) => false,
+        Cell::Settled(kind) => matches!(kind, Kind::Day | Kind::Quantity),
+        Cell::Counted(_) => true,
+    }
+}
+
+// Cells a and b, two that differ, become one.
+fn joined(t: Cells, a: Cell, b: Cell) -> Option<Cells>
+    ensures { result ≡ joined t a b }
+{
+    match (a, b) {
+        (Cell::Leads(_), _) => Some(relabel(t, a, b)),
+        (_, Cell::Leads(_)) => Some(relabel(t, b, a)),
+        (Cell::Counted(_), _) if is_counted(b) => Some(relabel(t, a, b)),
+        (_, Cell::Counted(_)) if is_counted(a) => Some(relabel(t, b, a)),
+        _ => None,
     }
 }
 
 // Cells a and b become one.
-#[tactic(auto, unfolding(crate::specs::Cells::merged))]
-fn merged(t: Cells, a: u8, b: u8) -> Option<Cells>
+fn merged(t: Cells, a: Cell, b: Cell) -> Option<Cells>
     ensures { result ≡ merged t a b }
 {
-    if a == b {
-        Some(t)
-    } else if a < ANY_PRINCIPAL {
-        Some(relabel(t, a, b))
-    } else if b < ANY_PRINCIPAL {
-        Some(relabel(t, b, a))
-    } else {
-        settled(t, a, b)
-    }
+    if a == b { Some(t) } else { joined(t, a, b) }
 }
 
 // A cell becomes one of days or quantities.
-fn counted(t: Cells, a: u8) -> Option<Cells>
+fn counted(t: Cells, a: Cell) -> Option<Cells>
     ensures { result ≡ counted t a }
 {
-    if a < ANY_PRINCIPAL {
-        Some(relabel(t, a, a + OPEN_NUMBER))
-    } else if a < ANY_DAY {
-        None
-    } else {
-        Some(t)
+    match a {
+        Cell::Leads(v) => Some(relabel(t, a, Cell::Counted(v))),
+        _ if is_counted(a) => Some(t),
+        _ => None,
     }
 }
 
-// Two terms of one kind.
-#[tactic(auto, unfolding(crate::specs::Cells::alike))]
-pub fn alike(t: Cells, l: u8, r: u8) -> Option<Cells>
+// Two terms of one kind. In place, since the reader of a policy calls it for each term, and the cells then stay in registers.
+#[inline(always)]
+pub fn alike(t: Cells, l: Term, r: Term) -> Option<Cells>
     ensures { result ≡ alike t l r }
 {
-    if ANY_QUANTITY < l || ANY_QUANTITY < r {
-        None
-    } else {
-        merged(t, cell_of(t, l), cell_of(t, r))
-    }
+    merged(t, cell_of(t, l)?, cell_of(t, r)?)
 }
 
 // A day or a quantity.
-#[tactic(auto, unfolding(crate::specs::Cells::numbered))]
-pub fn numbered(t: Cells, l: u8) -> Option<Cells>
+pub fn numbered(t: Cells, l: Term) -> Option<Cells>
     ensures { result ≡ numbered t l }
 {
-    if ANY_QUANTITY < l {
-        None
-    } else {
-        counted(t, cell_of(t, l))
-    }
+    counted(t, cell_of(t, l)?)
 }

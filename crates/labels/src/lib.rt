@@ -8,13 +8,15 @@ ghost use Rattle.model.specs.Values.{lower, alike};
 ghost use Rattle.labels.specs.Hash.{buckets, hash_of};
 ghost use Rattle.labels.specs.Largest.{largest};
 
+use limits::Kind;
+
 pub const BUCKETS: usize = 251;
 
 // "Kind 1 principal and 2 thing: label"
 pub fn has_label(kind: usize) -> bool
     ensures { result ≡ has_label kind }
 {
-    kind == limits::PRINCIPAL || kind == limits::THING
+    kind == Kind::Principal as usize || kind == Kind::Thing as usize
 }
 
 // "0x41 to 0x5A are read as 0x61 to 0x7A"

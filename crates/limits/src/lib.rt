@@ -3,6 +3,7 @@
 
 ghost use Rattle.std.specs.Prelude.{◌≡◌};
 ghost use Rattle.limits.specs.All.{all};
+ghost use Rattle.limits.specs.Kinds.{kind_of, number_of};
 
 // ---- "Byte 0: version, 1. Bytes 1 to 4: count of all bytes after them."; a request: "today (4 bytes ..), one node". A policy's versions are 1 and 2.
 
@@ -64,13 +65,35 @@ pub const HIGHEST_LABEL_BYTE: usize = 0x7E;
 
 // ---- kinds in their numbers; "a depth byte (0, or 1 for unlimited)"; verb 0, "can act as"
 
-pub const PRINCIPAL: usize = 1;
+// In the tables of a policy a kind is one of its bytes, compared with a number where it is read.
+#[derive(Clone, Copy, PartialEq, Eq)]
+pub enum Kind {
+    Principal = 1,
+    Thing,
+    Day,
+    Quantity,
+}
 
-pub const THING: usize = 2;
+impl Kind {
+    // The kind with a number, if there is one.
+    pub fn of(number: u8) -> Option<Kind>
+        ensures { result ≡ kind_of number }
+    {
+        match number {
+            1 => Some(Kind::Principal),
+            2 => Some(Kind::Thing),
+            3 => Some(Kind::Day),
+            4 => Some(Kind::Quantity),
+            _ => None,
+        }
+    }
 
-pub const DAY: usize = 3;
-
-pub const QUANTITY: usize = 4;
+    pub fn number(self) -> u8
+        ensures { result ≡ number_of self }
+    {
+        self as u8
+    }
+}
 
 pub const UNLIMITED: usize = 1;
 
@@ -120,10 +143,10 @@ pub fn all() -> [usize; 34]
         LABEL,
         LOWEST_LABEL_BYTE,
         HIGHEST_LABEL_BYTE,
-        PRINCIPAL,
-        THING,
-        DAY,
-        QUANTITY,
+        Kind::Principal as usize,
+        Kind::Thing as usize,
+        Kind::Day as usize,
+        Kind::Quantity as usize,
         UNLIMITED,
         CAN_ACT_AS,
         FIRST_VARIABLE,

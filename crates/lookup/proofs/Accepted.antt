@@ -22,10 +22,12 @@ use Rattle.model.proofs.ReadFacts.{choose_yes, choose_no, and_then_got, headed_g
 use Rattle.model.proofs.PolicyReader.{policy_is}
 use Rattle.wire.proofs.Reading.{choose_true, choose_false}
 use Rattle.policy.specs.declared.Index.{Index}
-use Rattle.policy.specs.Index.{held, kind_table, index_of, refusal, handed_out}
+use Rattle.std.specs.Prelude.{Err}
+use Rattle.policy.specs.Index.{held, kind_table, index_of, handed_out, HandsOut}
+use Rattle.policy.proofs.PolicyFacts.{accepted_by, index_got, refused_got}
 use Rattle.names.proofs.FormFacts.{constant_two}
 use Rattle.names.proofs.ItemFacts.{constant_right}
-use Rattle.policy.proofs.TableFacts.{held_at, kind_is, held_front, held_long}
+use Rattle.policy.proofs.TableFacts.{kind_is, held_front}
 use Rattle.demands.specs.Lookups.{constant_offsets, verb_offsets, no_number, first_of, is_named, number_in}
 use Rattle.lookup.specs.Named.{Near, Standing, named_at}
 use Rattle.lookup.proofs.Laws.{first_same}
@@ -144,144 +146,108 @@ module _ (s : List ℕ) (bytes : (i : ℕ) → byte_at s i < 256) where
         few_verbs = verbs.2;
       })
 
--- ---- as the code takes it: x is what the reader handed out
+-- ---- as the code takes it
+
+-- the first numbers of a list that the reader handed out, and the model's offsets
+pub record Laid (ats : List ℕ) (count most : ℕ) (model : List ℕ) : Type 0 where
+  pub near : Near (take count ats)
+  pub few : count ≤ most
+  pub counted : count ≡ length model
+  pub front : take count ats ≡ model
 
 front_of_law : {A : Type 0} (n : ℕ) (js : List (Item A)) → take (length js) (held n (offsets js)) ≡ offsets js
 front_of_law n js = ap (λ (k : ℕ). take k (held n (offsets js))) (sym (length-map js (λ i. i.at))) ∙ held_front n (offsets js)
 
--- the first numbers of a list that the reader handed out, and the model's offsets
-pub record Laid (ats : List ℕ) (count : ℕ) (model : List ℕ) : Type 0 where
-  pub near : Near ats count
-  pub few : count ≤ 255
-  pub counted : count ≡ length model
-  pub front : take count ats ≡ model
+laid_of : {A : Type 0} (n : ℕ) (js : List (Item A)) → length js ≤ n → ((k : ℕ) → k < length js → get_or (offsets js) k 0 < 4294967296)
+    → Laid (held n (offsets js)) (length js) n (offsets js)
+laid_of n js few small = record {
+  near = record { small = rw front_of_law (λ k h. small k (rw length-map at h)) };
+  few = few;
+  counted = sym (length-map js (λ i. i.at));
+  front = front_of_law n js;
+}
 
-module _ (s : List ℕ) (x : Index) (h : x ≡ handed_out (read_policy s)) where
-  -- what holds of the index of every reading of s
-  to_index : (Q : Index → Type 0) → ((r : Reading Accepted) → read_policy s ≡ r → Q (handed_out r)) → Q x
-  to_index Q f = subst Q (sym h) (f (read_policy s) refl)
+-- a policy that is refused has none
+pub none_refused : (s : List ℕ) (n p : ℕ) → Err (n, p) ≡ handed_out (read_policy s)
+    → (constant_offsets (read_policy s) ≡ []) × (verb_offsets (read_policy s) ≡ [])
+    × ((kind : ℕ) (label : List ℕ) → number_in (read_policy s) kind label ≡ no_number)
+unfolding constant_offsets verb_offsets number_in
+none_refused s n p i =
+    let e = refused_got (read_policy s) n p i in
+    (ap constant_offsets e, ap verb_offsets e, λ kind label. ap (λ (r : Reading Accepted). number_in r kind label) e)
 
-  constants_front : take x.constants x.constant_at ≡ constant_offsets (read_policy s)
-  unfolding handed_out index_of refusal constant_offsets
-  constants_front = go (read_policy s) h
+-- kinds without labels
+pub no_number_law : (s : List ℕ) (kind : ℕ) (label : List ℕ) → has_label kind ≡ false → no_number ≡ number_in (read_policy s) kind label
+unfolding number_in
+no_number_law s kind label k = go (read_policy s)
+  where
+    go : (r : Reading Accepted) → no_number ≡ number_in r kind label
+    go (got A e) = sym (choose_false _ no_number k)
+    go (refused n p) = refl
+
+-- x is what the reader handed out
+module _ (s : List ℕ) (x : Index) (h : HandsOut s x) (bytes : (i : ℕ) → byte_at s i < 256) where
+  read_as : (A : Accepted) × (e : ℕ) × (read_policy s ≡ got A e)
+  read_as = accepted_by (read_policy s) x h
+
+  is : x ≡ index_of read_as.0
+  is = index_got (read_policy s) x h read_as.0 read_as.1 read_as.2
+
+  S : Stand s bytes read_as.0
+  S = accepted_stand s bytes read_as.0 read_as.1 read_as.2
+
+  pub constants_laid : Laid x.constant_at x.constants max_constants (constant_offsets (read_policy s))
+  unfolding index_of constant_offsets
+  constants_laid =
+      rw (is, read_as.2) (laid_of max_constants read_as.0.constants S.few_constants (λ k q. let c = S.constants k q in omega (arith, c.2, c.1.1)))
+
+  pub verbs_laid : Laid x.verb_at x.verbs max_verbs (verb_offsets (read_policy s))
+  unfolding index_of verb_offsets
+  verbs_laid = rw (is, read_as.2) (laid_of max_verbs read_as.0.verbs S.few_verbs S.verbs)
+
+  -- an item stands at each offset, whose length is not 0
+  pub constants_stand : Standing s (take x.constants x.constant_at)
+  unfolding constant_offsets
+  constants_stand =
+      let L = constants_laid in
+      let offsets_are : take x.constants x.constant_at ≡ offsets read_as.0.constants = L.front ∙ ap constant_offsets read_as.2 in
+      record {
+        near = L.near;
+        long = rw offsets_are (λ k q.
+            let c = S.constants k (rw length-map at q) in
+            subst (λ (p : ℕ). 1 ≤ byte_at s p) (sym c.2) c.1.0.1);
+      }
+
+  -- the number that the search by offsets finds is the model's
+  pub number_is : (kind : ℕ) (label : List ℕ) → has_label kind ≡ true
+      → first_of (λ j. named_at s x.kinds kind label j (get_or (take x.constants x.constant_at) j 0)) 0 (length (take x.constants x.constant_at))
+      ≡ number_in (read_policy s) kind label
+  unfolding index_of number_in constant_read_at first_of constant_offsets
+  number_is kind label k =
+      let A = read_as.0 in
+      let L = constants_laid in
+      let front : take x.constants x.constant_at ≡ offsets A.constants = L.front ∙ ap constant_offsets read_as.2 in
+      let kinds : x.kinds ≡ kind_table (contents A.constants) = ap (λ (y : Index). y.kinds) is in
+      ap₂ (λ (ks o : List ℕ). first_of (λ j. named_at s ks kind label j (get_or o j 0)) 0 (length o)) kinds front
+      ∙ ap (first_of (λ j. named_at s (kind_table (contents A.constants)) kind label j (get_or (offsets A.constants) j 0)) 0)
+      (length-map A.constants (λ i. i.at))
+      ∙ first_same _ _ 0 (length A.constants) test
+      ∙ sym (ap (λ (r : Reading Accepted). number_in r kind label) read_as.2 ∙ choose_true _ no_number k)
     where
-      go : (r : Reading Accepted) → x ≡ handed_out r → take x.constants x.constant_at ≡ constant_offsets r
-      go (got A e) i = subst (λ (y : Index). take y.constants y.constant_at ≡ offsets A.constants) (sym i) (front_of_law max_constants A.constants)
-      go (refused n p) i = subst (λ (y : Index). take y.constants y.constant_at ≡ []) (sym i) refl
+      same : (kind' : ℕ) (l l' : List ℕ) → (kind' ≡ kind → l ≡ l') → (eqb kind' kind && alike l label) ≡ (eqb kind' kind && alike l' label)
+      same kind' l l' f = cases (eqb kind' kind) refl
+        where
+          cases : (b : Bool) → eqb kind' kind ≡ b → (b && alike l label) ≡ (b && alike l' label)
+          cases true t = ap (λ (m : List ℕ). alike m label) (f (eqb-true kind' kind t))
+          cases false t = refl
 
-  verbs_front : take x.verbs x.verb_at ≡ verb_offsets (read_policy s)
-  unfolding handed_out index_of refusal verb_offsets
-  verbs_front = go (read_policy s) h
-    where
-      go : (r : Reading Accepted) → x ≡ handed_out r → take x.verbs x.verb_at ≡ verb_offsets r
-      go (got A e) i = subst (λ (y : Index). take y.verbs y.verb_at ≡ offsets A.verbs) (sym i) (front_of_law max_verbs A.verbs)
-      go (refused n p) i = subst (λ (y : Index). take y.verbs y.verb_at ≡ []) (sym i) refl
-
-  constants_count : x.constants ≡ length (constant_offsets (read_policy s))
-  unfolding handed_out index_of refusal constant_offsets
-  constants_count = go (read_policy s) h
-    where
-      go : (r : Reading Accepted) → x ≡ handed_out r → x.constants ≡ length (constant_offsets r)
-      go (got A e) i = ap (λ (y : Index). y.constants) i ∙ sym (length-map A.constants (λ i. i.at))
-      go (refused n p) i = ap (λ (y : Index). y.constants) i
-
-  verbs_count : x.verbs ≡ length (verb_offsets (read_policy s))
-  unfolding handed_out index_of refusal verb_offsets
-  verbs_count = go (read_policy s) h
-    where
-      go : (r : Reading Accepted) → x ≡ handed_out r → x.verbs ≡ length (verb_offsets r)
-      go (got A e) i = ap (λ (y : Index). y.verbs) i ∙ sym (length-map A.verbs (λ i. i.at))
-      go (refused n p) i = ap (λ (y : Index). y.verbs) i
-
-  module _ (bytes : (i : ℕ) → byte_at s i < 256) where
-    pub constants_stand : (x.constants ≤ 255) × Standing s x.constant_at x.constants
-    unfolding handed_out index_of refusal
-    constants_stand = to_index (λ (y : Index). (y.constants ≤ 255) × Standing s y.constant_at y.constants) go
-      where
-        go : (r : Reading Accepted) → read_policy s ≡ r → ((handed_out r).constants ≤ 255) × Standing s (handed_out r).constant_at (handed_out r).constants
-        go (got A e) i =
-            let S = accepted_stand s bytes A e i in
-            let l = held_long max_constants (offsets A.constants) in
-            let at : (k : ℕ) → get_or (held max_constants (offsets A.constants)) k 0 ≡ get_or (offsets A.constants) k 0 = held_at max_constants
-            (offsets A.constants) in (
-              S.few_constants,
-              record {
-                near = record {
-                  within = omega (arith, l, length-map A.constants (λ i. i.at));
-                  small = λ k q. let c = S.constants k q in omega (arith, at k, c.2, c.1.1);
-                };
-                long = λ k q. let c = S.constants k q in subst (λ (p : ℕ). 1 ≤ byte_at s p) (sym (at k ∙ c.2)) c.1.0.1;
-              },
-            )
-        go (refused n p) i = (
-          omega arith,
-          record {
-            near = record { within = omega arith; small = λ k q. absurd (omega arith) };
-            long = λ k q. absurd
-                (omega arith);
-          },
-        )
-
-    verbs_near : (x.verbs ≤ 64) × Near x.verb_at x.verbs
-    unfolding handed_out index_of refusal
-    verbs_near = to_index (λ (y : Index). (y.verbs ≤ 64) × Near y.verb_at y.verbs) go
-      where
-        go : (r : Reading Accepted) → read_policy s ≡ r → ((handed_out r).verbs ≤ 64) × Near (handed_out r).verb_at (handed_out r).verbs
-        go (got A e) i =
-            let S = accepted_stand s bytes A e i in
-            let l = held_long max_verbs (offsets A.verbs) in (
-              S.few_verbs,
-              record {
-                within = omega (arith, l, length-map A.verbs (λ i. i.at));
-                small = λ k q. omega (arith, held_at max_verbs (offsets A.verbs) k, S.verbs k q);
-              },
-            )
-        go (refused n p) i = (omega arith, record { within = omega arith; small = λ k q. absurd (omega arith) })
-
-    -- so both lists of offsets can be laid out: they are near, and the model's
-    pub constants_laid : Laid x.constant_at x.constants (constant_offsets (read_policy s))
-    constants_laid = let w = constants_stand in record { near = w.1.near; few = w.0; counted = constants_count; front = constants_front }
-
-    pub verbs_laid : Laid x.verb_at x.verbs (verb_offsets (read_policy s))
-    verbs_laid = let w = verbs_near in record { near = w.1; few = (let l = w.0 in omega arith); counted = verbs_count; front = verbs_front }
-
-    -- the number that the search by offsets finds is the model's
-    pub number_is : (kind : ℕ) (label : List ℕ) → has_label kind ≡ true → (z : ℕ)
-        → z ≡ first_of (λ j. named_at s x.kinds kind label j (get_or x.constant_at j 0)) 0 x.constants → z ≡ number_in (read_policy s) kind label
-    unfolding handed_out index_of refusal number_in constant_read_at first_of
-    number_is kind label k z d = d ∙ to_index (λ (y : Index). by y ≡ number_in (read_policy s) kind label) go
-      where
-        by : Index → ℕ
-        by y = first_of (λ j. named_at s y.kinds kind label j (get_or y.constant_at j 0)) 0 y.constants
-
-        same : (kind' : ℕ) (l l' : List ℕ) → (kind' ≡ kind → l ≡ l') → (eqb kind' kind && alike l label) ≡ (eqb kind' kind && alike l' label)
-        same kind' l l' f = cases (eqb kind' kind) refl
-          where
-            cases : (b : Bool) → eqb kind' kind ≡ b → (b && alike l label) ≡ (b && alike l' label)
-            cases true t = ap (λ (m : List ℕ). alike m label) (f (eqb-true kind' kind t))
-            cases false t = refl
-
-        go : (r : Reading Accepted) → read_policy s ≡ r → by (handed_out r) ≡ number_in (read_policy s) kind label
-        go (got A e) i = first_same _ _ 0 (length A.constants) test ∙ sym (ap (λ (r : Reading Accepted). number_in r kind label) i ∙ choose_true _ no_number k)
-          where
-            test : (j : ℕ) → 0 ≤ j → j < 0 + length A.constants
-                → named_at s (kind_table (contents A.constants)) kind label j (get_or (held max_constants (offsets A.constants)) j 0) ≡ is_named kind label
-                (get_or (contents A.constants) j no_constant)
-            test j a l =
-                let c = (accepted_stand s bytes A e i).constants j (omega arith) in
-                let at : get_or (held max_constants (offsets A.constants)) j 0 ≡ c.0.at = held_at max_constants (offsets A.constants) j ∙ c.2 in
-                let is : get_or (contents A.constants) j no_constant ≡ constant_read_at s c.0.at = c.3 ∙ c.1.0.0 in
-                ap₂ (λ (n p : ℕ). eqb n kind && alike (bytes_at (byte_at s p - 1) s (p + 2)) label)
-                (kind_is (contents A.constants) j ∙ ap (λ (c : Constant). c.kind) is) at
-                ∙ same (byte_at s (c.0.at + 1)) _ _ (λ e. sym (choose_true _ [] (ap has_label e ∙ k)))
-                ∙ ap (is_named kind label) (sym is)
-        go (refused n p) i = sym (ap (λ (r : Reading Accepted). number_in r kind label) i)
-
-  -- kinds without labels
-  pub no_number_law : (kind : ℕ) (label : List ℕ) → has_label kind ≡ false → no_number ≡ number_in (read_policy s) kind label
-  unfolding number_in
-  no_number_law kind label k = go (read_policy s)
-    where
-      go : (r : Reading Accepted) → no_number ≡ number_in r kind label
-      go (got A e) = sym (choose_false _ no_number k)
-      go (refused n p) = refl
+      test : (j : ℕ) → 0 ≤ j → j < 0 + length read_as.0.constants
+          → named_at s (kind_table (contents read_as.0.constants)) kind label j (get_or (offsets read_as.0.constants) j 0) ≡ is_named kind label
+          (get_or (contents read_as.0.constants) j no_constant)
+      test j a l =
+          let c = S.constants j (omega arith) in
+          let is : get_or (contents read_as.0.constants) j no_constant ≡ constant_read_at s c.0.at = c.3 ∙ c.1.0.0 in
+          ap₂ (λ (n p : ℕ). eqb n kind && alike (bytes_at (byte_at s p - 1) s (p + 2)) label)
+          (kind_is (contents read_as.0.constants) j ∙ ap (λ (c : Constant). c.kind) is) c.2
+          ∙ same (byte_at s (c.0.at + 1)) _ _ (λ e. sym (choose_true _ [] (ap has_label e ∙ k)))
+          ∙ ap (is_named kind label) (sym is)

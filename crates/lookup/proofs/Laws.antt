@@ -3,7 +3,7 @@ use mathlib.Core.Path.{◌≡◌, refl, sym, ap, ap₂, ◌∙◌}
 use mathlib.Core.Bool.{Bool, true, false}
 use mathlib.Core.List.{List, [], ◌∷◌, ◌++◌}
 use Prim.Native.Nat.{ℕ, zero, suc, ◌+◌, ◌-◌, min, ◌≤◌, ◌<◌}
-use native.Mathlib.Numerals.{sub-one, add-one}
+use native.Mathlib.Numerals.{add-one}
 use native.Mathlib.Omega.{arith}
 use lib.ListN.{length, get_or, set, take, drop}
 use lib.Seq.{ext_get_or}
@@ -28,48 +28,42 @@ over_next L t i h k = go L t i h k ∙ ap (over L t) (sym (add-one i))
     go (a ∷ L) (b ∷ t) zero h k = refl
     go (a ∷ L) (b ∷ t) (suc i) h k = ap (λ (l : List ℕ). a ∷ l) (go L t i (omega arith) (omega arith))
 
-pub over_length : (L t : List ℕ) (i : ℕ) → i ≤ length L → i ≤ length t → length (over L t i) ≡ length t
-over_length L t zero h k = refl
-over_length [] t (suc i) h k = absurd (omega arith)
-over_length (a ∷ L) [] (suc i) h k = absurd (omega arith)
-over_length (a ∷ L) (b ∷ t) (suc i) h k = ap suc (over_length L t i (omega arith) (omega arith))
+pub over_none : (L t : List ℕ) → over L t 0 ≡ t
+over_none L t = refl
 
 -- as many as fit
-pub over_all : (L t : List ℕ) (n : ℕ) → n ≤ length L → over L t (min n (length t)) ≡ laid (take n L) t
+pub over_all : (L t : List ℕ) (n : ℕ) → n ≡ min (length L) (length t) → over L t n ≡ laid L t
 unfolding laid
-over_all L t zero h = let e : min 0 (length t) ≡ 0 = omega arith in rw e (nothing t)
+over_all L t n e = ap (over L t) e ∙ go L t
   where
-    nothing : (t : List ℕ) → over L t 0 ≡ take (length t) [] ++ t
-    nothing [] = refl
-    nothing (b ∷ t) = refl
-over_all [] t (suc n) h = absurd (omega arith)
-over_all (a ∷ L) [] (suc n) h = let e : min (suc n) 0 ≡ 0 = omega arith in rw e
-over_all (a ∷ L) (b ∷ t) (suc n) h =
-    let e : min (suc n) (suc (length t)) ≡ suc (min n (length t)) = omega arith in
-    rw e (ap (λ (l : List ℕ). a ∷ l) (over_all L t n (omega arith)))
+    go : (L t : List ℕ) → over L t (min (length L) (length t)) ≡ take (length t) L ++ drop (length L) t
+    go [] [] = refl
+    go [] (b ∷ t) = let e : min 0 (suc (length t)) ≡ 0 = omega arith in rw e
+    go (a ∷ L) [] = let e : min (suc (length L)) 0 ≡ 0 = omega arith in rw e
+    go (a ∷ L) (b ∷ t) =
+        let e : min (suc (length L)) (suc (length t)) ≡ suc (min (length L) (length t)) = omega arith in
+        rw e (ap (λ (l : List ℕ). a ∷ l) (go L t))
+
+pub nothing_laid : (t : List ℕ) → t ≡ laid [] t
+unfolding laid
+nothing_laid [] = refl
+nothing_laid (b ∷ t) = refl
 
 -- ---- a search by number
 
-module _ (f : ℕ → Bool) (i n : ℕ) where
-  pub first_none : n ≡ 0 → no_number ≡ first_of f i n
+module _ (f : ℕ → Bool) (n i : ℕ) where
+  -- of those from i on: there are none, the first passes, or it doesn't
+  pub first_none : n ≤ i → first_of f i (n - i) ≡ no_number
   unfolding first_of
-  first_none e = rw e
+  first_none h = let e : n - i ≡ 0 = omega arith in rw e
 
-  pub first_here_law : (n ≡ 0 → ⊥) → f i ≡ true → i ≡ first_of f i n
+  pub first_here_law : i < n → f i ≡ true → first_of f i (n - i) ≡ i
   unfolding first_of
-  first_here_law h e = go n h
-    where
-      go : (n : ℕ) → (n ≡ 0 → ⊥) → i ≡ first_of f i n
-      go zero h = absurd (h refl)
-      go (suc n) h = sym (choose_true i _ e)
+  first_here_law h e = let k : n - i ≡ suc (n - (i + 1)) = omega arith in rw k (choose_true i _ e)
 
-  pub first_on : (n ≡ 0 → ⊥) → f i ≡ false → (z : ℕ) → z ≡ first_of f (i + 1) (n - 1) → z ≡ first_of f i n
+  pub first_on : i < n → f i ≡ false → first_of f i (n - i) ≡ first_of f (i + 1) (n - (i + 1))
   unfolding first_of
-  first_on h e z k = go n h k
-    where
-      go : (n : ℕ) → (n ≡ 0 → ⊥) → z ≡ first_of f (i + 1) (n - 1) → z ≡ first_of f i n
-      go zero h k = absurd (h refl)
-      go (suc n) h k = (rw (add-one, sub-one) at k) ∙ sym (choose_false i _ e)
+  first_on h e = let k : n - i ≡ suc (n - (i + 1)) = omega arith in rw (k, add-one) (choose_false i _ e)
 
 -- tests that agree on the numbers searched find the same
 pub first_same : (f g : ℕ → Bool) (i n : ℕ) → ((j : ℕ) → i ≤ j → j < i + n → f j ≡ g j) → first_of f i n ≡ first_of g i n

@@ -1,71 +1,64 @@
 // Look-ups for a host in the bytes of a policy: where its constants and verbs stand, and the number of the constant that has a label.
 #![tactic(auto)]
 
-ghost use Rattle.std.specs.Prelude.{◌≡◌, ℕ, ◌+◌, ◌-◌, min, ◌≤◌, ◌<◌, length, get_or, take};
+ghost use Rattle.std.specs.Prelude.{◌≡◌, ◌+◌, ◌-◌, ◌≤◌, ◌<◌, length, get_or, IfSome};
 ghost use Rattle.model.specs.Bytes.{byte_at, bytes_at};
 ghost use Rattle.model.specs.Values.{alike};
 ghost use Rattle.model.specs.Policies.{read_policy};
-ghost use Rattle.wire.specs.Budget.{farthest};
 ghost use Rattle.demands.specs.Lookups.{constant_offsets, verb_offsets, laid, first_of, number_in};
-ghost use Rattle.lookup.specs.Named.{Near, Standing, named_at};
+ghost use Rattle.lookup.specs.Named.{Near, Standing, named_at, number_or};
 
-// There is no such constant.
+// There is no such constant: the C interface has numbers alone.
 pub const NO_NUMBER: u32 = 0xFFFFFFFF;
 
-fn fewer(a: usize, b: usize) -> usize
-    ensures { result ≡ min a b }
+// These numbers, as many as fit; the rest of `offsets` stays as lent.
+#[tactic(auto, using(crate::proofs::Laws::over_none, crate::proofs::Laws::over_next, crate::proofs::Laws::over_all))]
+fn lay(ats: &[usize], offsets: &mut [u32])
+    requires { Near ats.now }
+    ensures { offsets.new ≡ laid ats.now offsets.old }
 {
-    if a < b {
-        return a;
-    }
-    b
-}
-
-// The first `count` numbers of `ats`, as many as fit; the rest of `offsets` stays as lent.
-fn lay(ats: &[usize], count: usize, offsets: &mut [u32])
-    requires { Near ats.now count }
-    ensures { offsets.new ≡ laid (take count ats.now) offsets.old }
-{
-    let end = fewer(count, offsets.len());
-    let mut i = 0;
-    while i < end {
+    for i in 0..ats.len().min(offsets.len()) {
         offsets[i] = ats[i] as u32;
-        i += 1;
     }
 }
 
+// 0 and no Result for a policy that is not accepted: the C interface has numbers alone.
 // Where each constant stands, the offset of its length byte; how many there are, 0 for a policy that is not accepted.
 pub fn constants(policy: &[u8], offsets: &mut [u32]) -> u32
     ensures count { result ≡ length (constant_offsets (read_policy policy.now)) }
     ensures written { offsets.new ≡ laid (constant_offsets (read_policy policy.now)) offsets.old }
 {
-    let x = policy::read(policy);
-    let ats = x.constant_at;
-    lay(&ats, x.constants, offsets);
-    x.constants as u32
+    match policy::read(policy) {
+        Ok(x) => {
+            lay(&x.constant_at[..x.constants], offsets);
+            x.constants as u32
+        }
+        Err(_) => 0,
+    }
 }
 
-// The same of the verbs, from verb 1 on.
+// The same of the verbs, from verb 1 on. One function for both would be no plainer: each is its table and its count.
 pub fn verbs(policy: &[u8], offsets: &mut [u32]) -> u32
     ensures count { result ≡ length (verb_offsets (read_policy policy.now)) }
     ensures written { offsets.new ≡ laid (verb_offsets (read_policy policy.now)) offsets.old }
 {
-    let x = policy::read(policy);
-    let ats = x.verb_at;
-    lay(&ats, x.verbs, offsets);
-    x.verbs as u32
+    match policy::read(policy) {
+        Ok(x) => {
+            lay(&x.verb_at[..x.verbs], offsets);
+            x.verbs as u32
+        }
+        Err(_) => 0,
+    }
 }
 
 // The label of the principal or thing at `at` is alike to this one.
+#[tactic(auto, using(crate::proofs::Laws::label_same, crate::proofs::Laws::label_other))]
 fn labelled(policy: &[u8], at: usize, label: &[u8]) -> bool
     requires { (1 ≤ byte_at policy.now at) × (at < 4294967296) }
     ensures { result ≡ alike (bytes_at (byte_at policy.now at - 1) policy.now (at + 2)) label.now }
 {
     let n = wire::byte_or(policy, at) - 1;
-    if n == label.len() {
-        return labels::alike(policy, at + 2, label, 0, n);
-    }
-    false
+    n == label.len() && labels::alike(policy, at + 2, label, 0, n)
 }
 
 // Constant i, which stands at `at`, has this kind and this label.
@@ -73,43 +66,41 @@ fn named(policy: &[u8], kinds: &[u8], i: usize, at: usize, kind: usize, label: &
     requires { (1 ≤ byte_at policy.now at) × (at < 4294967296) }
     ensures { result ≡ named_at policy.now kinds.now kind label.now i at }
 {
-    if wire::byte_or(kinds, i) == kind {
-        return labelled(policy, at, label);
-    }
-    false
+    wire::byte_or(kinds, i) == kind && labelled(policy, at, label)
 }
 
-// The first of n constants from number i on that has this kind and this label.
-fn first(
-    policy: &[u8],
-    kinds: &[u8],
-    ats: &[usize],
-    kind: usize,
-    label: &[u8],
-    i: usize,
-    n: usize,
-) -> u32
-    requires { (i + n ≤ 255) × Standing policy.now ats.now (i + n) }
-    ensures { result ≡ first_of (λ j. named_at policy.now kinds.now kind label.now j (get_or ats.now j 0)) i n }
+// The number of the first constant that has this kind and this label.
+#[tactic(auto, using(crate::proofs::Laws::first_here_law, crate::proofs::Laws::first_on, crate::proofs::Laws::first_none))]
+fn first(policy: &[u8], kinds: &[u8], ats: &[usize], kind: usize, label: &[u8]) -> Option<usize>
+    requires { (length ats.now ≤ 255) × Standing policy.now ats.now }
+    ensures is { number_or result
+        ≡ first_of (λ j. named_at policy.now kinds.now kind label.now j (get_or ats.now j 0)) 0 (length ats.now) }
+    ensures within { IfSome result (λ i. i < length ats.now) }
 {
-    if n == 0 {
-        return NO_NUMBER;
+    for i in 0..ats.len() {
+        if named(policy, kinds, i, ats[i], kind, label) {
+            return Some(i);
+        }
     }
-    if named(policy, kinds, i, ats[i], kind, label) {
-        return i as u32;
-    }
-    first(policy, kinds, ats, kind, label, i + 1, n - 1)
+    None
 }
 
 // The number of the constant of this kind that has this label, `NO_NUMBER` where there is none.
 pub fn find(policy: &[u8], kind: u32, label: &[u8]) -> u32
     ensures { result ≡ number_in (read_policy policy.now) kind label.now }
 {
-    if labels::has_label(kind as usize) {
-        let x = policy::read(policy);
-        let kinds = x.kinds;
-        let ats = x.constant_at;
-        return first(policy, &kinds, &ats, kind as usize, label, 0, x.constants);
+    let kind = kind as usize;
+    if !labels::has_label(kind) {
+        return NO_NUMBER;
     }
-    NO_NUMBER
+    match policy::read(policy) {
+        Ok(x) => {
+            let found = first(policy, &x.kinds, &x.constant_at[..x.constants], kind, label);
+            match found {
+                Some(i) => i as u32,
+                None => NO_NUMBER,
+            }
+        }
+        Err(_) => NO_NUMBER,
+    }
 }

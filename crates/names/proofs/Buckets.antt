@@ -14,7 +14,8 @@ use Rattle.model.proofs.Tests.{and_true}
 use Rattle.labels.specs.Hash.{buckets, hash_of}
 use Rattle.labels.proofs.Laws.{alike_hash, hash_small}
 use Rattle.names.specs.Seeking.{constant_bucket, verb_bucket}
-use Rattle.names.proofs.FormFacts.{constant_inside, constant_two, verb_inside, verb_label}
+use Rattle.names.proofs.FormFacts.{constant_inside, constant_two, constant_start, verb_start, number_there}
+use Rattle.names.proofs.FormFacts.{kinds_differ, alike_labels_law, alike_numbers, verb_inside, verb_label, verbs_alike}
 
 not_true : (b : Bool) → (b ≡ true → ⊥) → b ≡ false
 not_true true h = absurd (h refl)
@@ -66,6 +67,17 @@ module _ (s : List ℕ) (at : ℕ) where
       (λ (b : ℕ). hash_of (bytes_at (byte_at s at - 1 - b) s (at + 2 + b))) d
 
 -- what the code is proved by, of an item of right form
-pub ruleset constant_facts = (constant_inside, constant_two, constants_apart)
+pub ruleset constant_facts = (
+  constant_inside,
+  constant_two,
+  constant_start,
+  number_there,
+  constants_apart,
+  kinds_differ,
+  alike_labels_law,
+  alike_numbers,
+  label_bucket,
+  number_bucket,
+)
 
-pub ruleset verb_facts = (verb_inside, verb_label, verbs_apart)
+pub ruleset verb_facts = (verb_inside, verb_label, verb_start, verbs_apart, verbs_alike, name_bucket)

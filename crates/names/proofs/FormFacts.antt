@@ -57,6 +57,9 @@ module _ (s : List ℕ) (at : ℕ) where
   unfolding item_end
   there_inside h = there_within h
 
+  pub there_begun : item_there s at ≡ true → at + 1 ≤ length s
+  there_begun h = omega (arith, there_inside h)
+
   pub constant_inside : constant_form s at ≡ true → at + 1 + byte_at s at ≤ length s
   unfolding item_end
   constant_inside h = constant_within h
@@ -64,6 +67,16 @@ module _ (s : List ℕ) (at : ℕ) where
   pub verb_inside : verb_form s at ≡ true → at + 1 + byte_at s at ≤ length s
   unfolding item_end
   verb_inside h = verb_within h
+
+  -- the bytes before a label, and those of a number, are there
+  pub constant_start : constant_form s at ≡ true → at + 3 ≤ length s
+  constant_start h = omega (arith, constant_inside h, constant_two h)
+
+  pub verb_start : verb_form s at ≡ true → at + 3 ≤ length s
+  verb_start h = omega (arith, verb_inside h, verb_label h)
+
+  pub number_there : constant_form s at ≡ true → has_label (byte_at s (at + 1)) ≡ false → at + 6 ≤ length s
+  number_there h k = omega (arith, constant_inside h, number_five h k)
 
   -- ---- the forms, test by test
 
@@ -76,7 +89,7 @@ module _ (s : List ℕ) (at : ℕ) where
   verb_tests = in_turn (item_there s at) (leb 1 (byte_at s at)) (signature_form s at)
 
 -- what the code is proved by
-pub ruleset form_tests = (there_inside, there_within, constant_tests, verb_tests)
+pub ruleset form_tests = (there_inside, there_begun, there_within, constant_tests, verb_tests)
 
 -- ---- "alike in kind and value"
 

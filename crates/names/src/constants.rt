@@ -11,6 +11,7 @@ ghost use Rattle.slices.specs.Steps.{step, step_of};
 ghost use Rattle.names.specs.Seeking.{constant_bucket};
 
 use crate::named::{self, Named};
+use limits::Kind;
 use slices::Refusal;
 
 // The item at `at` is there, and ends by the end of the bytes.
@@ -27,11 +28,10 @@ fn number_form(s: &[u8], at: usize) -> bool
     requires { at + 6 ≤ length s.now }
     ensures { result ≡ number_form s.now at }
 {
-    let kind = wire::byte(s, at + 1);
-    if kind == limits::DAY {
-        wire::u32_at(s, at + 2) <= limits::LAST_DAY
-    } else {
-        kind == limits::QUANTITY
+    match Kind::of(s[at + 1]) {
+        Some(Kind::Day) => wire::u32_at(s, at + 2) <= limits::LAST_DAY,
+        Some(Kind::Quantity) => true,
+        _ => false,
     }
 }
 
@@ -48,16 +48,8 @@ fn value_form(s: &[u8], at: usize) -> bool
     }
 }
 
-// The labels of the constants at q and at p, both of a kind that has one, are alike.
-#[tactic(auto, using(labels::proofs::Laws::parts_same, labels::proofs::Laws::parts_differ), unfolding(model::specs::Readings::item_end))]
-fn same_label(s: &[u8], q: usize, p: usize) -> bool
-    requires { (p < q) × (item_end s.now q ≤ length s.now) × (2 ≤ byte_at s.now q) }
-    ensures { result ≡ values.alike (bytes_at (byte_at s.now q - 1) s.now (q + 2))
-        (bytes_at (byte_at s.now p - 1) s.now (p + 2)) }
-{
-    let n = wire::byte(s, q);
-    n == wire::byte(s, p) && labels::alike(s, q + 2, s, p + 2, n - 1)
-}
+// A link for each bucket and constant, and one for "none". A const argument cannot be computed, but it can be named.
+const LINKS: usize = labels::BUCKETS + limits::CONSTANTS + 1;
 
 struct Constant;
 
@@ -81,7 +73,8 @@ impl Named for Constant {
             return false;
         }
         if labels::has_label(kind) {
-            same_label(s, q, p)
+            let n = wire::byte(s, q);
+            n == wire::byte(s, p) && labels::alike(s, q + 2, s, p + 2, n - 1)
         } else {
             wire::u32_at(s, q + 2) == wire::u32_at(s, p + 2)
         }
@@ -103,6 +96,5 @@ pub fn constants(s: &[u8], p: usize) -> Result<usize, Refusal>
     requires { p ≤ farthest }
     ensures { step_of result ≡ step (list_at s.now 1 max_constants (constant_item s.now) p) }
 {
-    // a const argument cannot be computed: a link for each bucket and constant, and one for "none"
-    named::list::<Constant, { limits::CONSTANTS }, 512>(s, 1, p)
+    named::list::<Constant, { limits::CONSTANTS }, { LINKS }>(s, 1, p)
 }

@@ -4,10 +4,10 @@ ghost use Rattle.std.specs.Prelude.{◌≡◌, ◌≢◌, true, false, [], List,
 ghost use Rattle.wire.specs.Budget.{farthest};
 ghost use Rattle.model.specs.Bytes.{byte_at};
 ghost use Rattle.model.specs.Lists.{any};
-ghost use Rattle.model.specs.Readings.{item_end, ends_by};
-ghost use Rattle.slices.specs.Items.{starts_at};
+ghost use Rattle.model.specs.Readings.{item_end};
 ghost use Rattle.slices.specs.Steps.{step_of};
 ghost use Rattle.labels.specs.Hash.{buckets};
+ghost use Rattle.chains.specs.Offsets.{ChainedBy};
 ghost use Rattle.names.specs.Names.{name_by, names_by, name_list};
 ghost use Rattle.names.specs.Seeking.{Listed};
 
@@ -42,29 +42,25 @@ pub trait Named {
         ensures alone { (p : ℕ) → bucket_at s.now p ≢ bucket_at s.now at → alike_at s.now at p ≡ false };
 }
 
-// One of the names that are listed is alike to that at q, which stands after them.
+// One of the names that stand at `ats` is alike to that at q, which stands after them.
+#[tactic(auto, using(chains::proofs::Offsets::looking))]
 fn seen<N: Named>(s: &[u8], q: usize, ats: &[usize], links: &[u16]) -> bool
-    requires { (N.form_at s.now q ≡ true)
-        × ((p k : ℕ) × Listed (item_end s.now) (N.bucket_at s.now) p k ats.now links.now × (ends_by (item_end s.now) k p ≤ q)) }
-    ensures { (p k : ℕ) → Listed (item_end s.now) (N.bucket_at s.now) p k ats.now links.now
-        → result ≡ any (N.alike_at s.now q) (starts_at (item_end s.now) k p) }
+    requires { (N.form_at s.now q ≡ true) × Listed s.now (N.bucket_at s.now) ats.now links.now q }
+    ensures { result ≡ any (N.alike_at s.now q) ats.now }
 {
-    let mut i = chains::head(links, N::bucket(s, q));
-    // a chain has no index to count: each entry has the number of the next
-    while i != 0 {
+    for i in chains::bucket(links, labels::BUCKETS, N::bucket(s, q)) {
         if N::alike(s, q, ats[i - 1]) {
             return true;
         }
-        i = chains::older(links, labels::BUCKETS, i);
     }
     false
 }
 
-// The name at `at`, after those that are listed.
+// The name at `at`, after those that stand at `ats`.
+#[tactic(auto, using(slices::proofs::ListFacts::item_end_law), unfolding(crate::specs::Names::name_by))]
 fn name<N: Named>(s: &[u8], at: usize, ats: &[usize], links: &[u16]) -> Result<usize, Refusal>
-    requires { (p k : ℕ) × Listed (item_end s.now) (N.bucket_at s.now) p k ats.now links.now × (ends_by (item_end s.now) k p ≡ at) }
-    ensures { (p k : ℕ) → Listed (item_end s.now) (N.bucket_at s.now) p k ats.now links.now
-        → step_of result ≡ name_by (N.form_at s.now) (N.alike_at s.now) (item_end s.now) (starts_at (item_end s.now) k p) at }
+    requires { Listed s.now (N.bucket_at s.now) ats.now links.now at }
+    ensures { step_of result ≡ name_by (N.form_at s.now) (N.alike_at s.now) (item_end s.now) ats.now at }
 {
     if !N::form(s, at) {
         return Err(Reason::Form.at(at));
@@ -83,13 +79,13 @@ fn names<N: Named>(
     ats: &mut [usize],
     links: &mut [u16],
 ) -> Result<usize, Refusal>
-    requires { Listed (item_end s.now) (N.bucket_at s.now) from 0 ats.old links.old
+    requires { ChainedBy (N.bucket_at s.now) links.old buckets ats.old 0
         × (n ≤ length ats.old) × (buckets + n < length links.old) × (n ≤ 65535) }
     ensures { step_of result ≡ names_by (N.form_at s.now) (N.alike_at s.now) (item_end s.now) n [] from }
 {
     let mut at = from;
     for k in 0..n {
-        let end = name::<N>(s, at, ats, links)?;
+        let end = name::<N>(s, at, &ats[..k], links)?;
         ats[k] = at;
         chains::add(links, labels::BUCKETS, k, N::bucket(s, at));
         at = end;

@@ -12,13 +12,13 @@ ghost use Rattle.names.specs.Seeking.{verb_bucket};
 
 use crate::constants;
 use crate::named::{self, Named};
+use limits::Kind;
 use slices::Refusal;
 
 fn is_kind(k: u8) -> bool
     ensures { result ≡ is_kind k }
 {
-    let k = usize::from(k);
-    limits::PRINCIPAL <= k && k <= limits::QUANTITY
+    Kind::of(k).is_some()
 }
 
 // "one kind byte per parameter": n of them from p on.
@@ -42,6 +42,9 @@ fn signature_form(s: &[u8], at: usize) -> bool
         && kinds_form(s, a, at + 2)
         && wire::label_form(s, at + 2 + a, n - 1 - a)
 }
+
+// A link for each bucket and verb, and one for "none".
+const LINKS: usize = labels::BUCKETS + limits::VERBS + 1;
 
 struct Verb;
 
@@ -79,6 +82,5 @@ pub fn verbs(s: &[u8], p: usize) -> Result<usize, Refusal>
     requires { p ≤ farthest }
     ensures { step_of result ≡ step (list_at s.now 0 max_verbs (verb_item s.now) p) }
 {
-    // a link for each bucket and verb, and one for "none"
-    named::list::<Verb, { limits::VERBS }, 320>(s, 0, p)
+    named::list::<Verb, { limits::VERBS }, { LINKS }>(s, 0, p)
 }

@@ -2,3 +2,4 @@ pub mod TreeSteps
 pub mod NodeSteps
 pub mod TreeLaws
 pub mod ReadLaws
+pub mod WalkSteps

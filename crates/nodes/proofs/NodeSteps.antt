@@ -6,17 +6,18 @@ use Rattle.model.specs.Bytes.{byte_at}
 use Rattle.model.specs.Nodes.{parts_form, variable_form}
 use Rattle.slices.specs.declared.Refusal.{Refusal}
 use Rattle.slices.specs.declared.Reason.TheVariants as reasons
+use Rattle.kinds.specs.Cells.{Cells}
 use Rattle.nodes.specs.Tree.{shape_at}
 use Rattle.nodes.specs.Nodes.{next, stop, read_then, reads_by, own_form, test_in, says_in, read_of, read_in}
 use Rattle.nodes.specs.declared.Reached.{Reached}
-use Rattle.nodes.specs.declared.tree.Shape.{Shape}
-use Rattle.nodes.specs.declared.tree.Shape.TheVariants.{Says, Test, All, Any, Not, Exists, Nothing}
+use Rattle.nodes.specs.declared.shape.Shape.{Shape}
+use Rattle.nodes.specs.declared.shape.Shape.TheVariants.{Says, Test, All, Any, Not, Exists, Nothing}
 
-pub reads_none : (f : ℕ → List ℕ → Result Reached Refusal) (n at : ℕ) (t : List ℕ) → n ≡ 0 → reads_by f n at t ≡ next at t
+pub reads_none : (f : ℕ → Cells → Result Reached Refusal) (n at : ℕ) (t : Cells) → n ≡ 0 → reads_by f n at t ≡ next at t
 unfolding reads_by
 reads_none f n at t e = rw e
 
-pub reads_more : (f : ℕ → List ℕ → Result Reached Refusal) (n at : ℕ) (t : List ℕ) → (n ≡ 0 → ⊥) → reads_by f n at t ≡ read_then (f at t) (reads_by f (n - 1))
+pub reads_more : (f : ℕ → Cells → Result Reached Refusal) (n at : ℕ) (t : Cells) → (n ≡ 0 → ⊥) → reads_by f n at t ≡ read_then (f at t) (reads_by f (n - 1))
 unfolding reads_by
 reads_more f zero at t h = absurd (h refl)
 reads_more f (suc n) at t h = rw sub-one
@@ -43,7 +44,7 @@ module _ (s : List ℕ) (at : ℕ) where
   own_nothing g = rw g
 
 module _ (ks sg s : List ℕ) where
-  pub read_broken : (d at : ℕ) (t : List ℕ)
+  pub read_broken : (d at : ℕ) (t : Cells)
       → (d ≡ 0) ⊎ ((d ≡ 0 → ⊥) × ((length s ≤ at) ⊎ ((at < length s) × (own_form s (shape_at s at) at ≡ false))))
       → read_in ks sg s d at t ≡ stop reasons.Form at
   unfolding read_in
@@ -52,13 +53,13 @@ module _ (ks sg s : List ℕ) where
   read_broken (suc d) at t (inr (n, inl l)) = rw (le-leb (length s) at l)
   read_broken (suc d) at t (inr (n, inr o)) = rw (lt-leb (length s) at o.0, o.1)
 
-  read_as : (d at : ℕ) (t : List ℕ) (k : Shape) → (d ≡ 0 → ⊥) → at < length s → own_form s (shape_at s at) at ≡ true → shape_at s at ≡ k
+  read_as : (d at : ℕ) (t : Cells) (k : Shape) → (d ≡ 0 → ⊥) → at < length s → own_form s (shape_at s at) at ≡ true → shape_at s at ≡ k
       → read_in ks sg s d at t ≡ read_of ks sg s k (read_in ks sg s (d - 1)) at t
   unfolding read_in
   read_as zero at t k n l o g = absurd (n refl)
   read_as (suc d) at t k n l o g = rw (lt-leb (length s) at l, o, g, sub-one)
 
-  module _ (d at : ℕ) (t : List ℕ) (n : d ≡ 0 → ⊥) (l : at < length s) (o : own_form s (shape_at s at) at ≡ true) where
+  module _ (d at : ℕ) (t : Cells) (n : d ≡ 0 → ⊥) (l : at < length s) (o : own_form s (shape_at s at) at ≡ true) where
     pub read_says : shape_at s at ≡ Says → read_in ks sg s d at t ≡ says_in ks sg s at t
     unfolding read_of
     read_says g = read_as d at t Says n l o g

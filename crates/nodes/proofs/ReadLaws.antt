@@ -18,7 +18,7 @@ use Rattle.model.specs.Readings.{expr_at, fact_at, constraint_at}
 use Rattle.model.specs.Forms as forms
 use Rattle.model.specs.Nodes.{parts_form, variable_form, check_parts, fitted, check_says, check_test, check_by, check_node}
 use Rattle.wire.proofs.Reading.{choose_true, choose_false, both_first, both_second}
-use Rattle.kinds.specs.Cells.{Ask, feed, nothing}
+use Rattle.kinds.specs.Cells.{Cells, Ask, feed, nothing}
 use Rattle.kinds.specs.Asks.{ask_place, ask_test, asks_for, Regular}
 use Rattle.kinds.specs.Choices.{MeetsAll}
 use Rattle.kinds.proofs.Laws.{feed_append}
@@ -33,8 +33,8 @@ use Rattle.slices.specs.declared.Refusal.{Refusal}
 use Rattle.slices.specs.declared.Reason.TheVariants as reasons
 use Rattle.nodes.specs.Nodes.{stop, read_then, reads_by, own_form, fits_to, test_in, says_asks, says_to, says_in, read_of, read_in}
 use Rattle.nodes.specs.declared.Reached.{Reached}
-use Rattle.nodes.specs.declared.tree.Shape.{Shape}
-use Rattle.nodes.specs.declared.tree.Shape.TheVariants.{Says, Test, All, Any, Not, Exists, Nothing}
+use Rattle.nodes.specs.declared.shape.Shape.{Shape}
+use Rattle.nodes.specs.declared.shape.Shape.TheVariants.{Says, Test, All, Any, Not, Exists, Nothing}
 use Rattle.nodes.proofs.TreeLaws.{by_bool, named, sort_is}
 
 -- ---- what two items ask together
@@ -76,14 +76,14 @@ module _ (cs : List Constant) where
   }
 
   -- the cells t are what the items so far, which ask D, have left
-  pub record State (t : List ℕ) (D : Demands) : Type 0 where
+  pub record State (t : Cells) (D : Demands) : Type 0 where
     pub asks : List Ask
     pub fed : feed asks nothing ≡ Some t
     pub alike : (κ : List ℕ) → MeetsAll κ asks ↔ MeetsAll κ (asks_for cs D)
     pub regular : Regular cs D
 
-  pub state_fits : (t : List ℕ) (D : Demands) → State t D → fitting cs D ≡ true
-  state_fits t D S = sym (fits_asks cs D S.regular S.asks S.alike) ∙ ap is_some S.fed
+  pub state_fits : (t : Cells) (D : Demands) → State t D → fitting cs D ≡ true
+  state_fits t D S = sym (fits_asks cs D S.regular S.asks (λ κ K. S.alike κ)) ∙ ap is_some S.fed
 
   -- a reading of the code agrees with one of the model
   abbrev pub Reads : Result Reached Refusal → Reading Demands → Type 0
@@ -93,7 +93,7 @@ module _ (cs : List Constant) where
   Reads (Err x) (got D e) = ⊥
 
   -- the cells where the model goes on
-  pub reached_state : (g : Result Reached Refusal) (D : Demands) (e : ℕ) → Reads g (got D e) → (t : List ℕ) × State t D
+  pub reached_state : (g : Result Reached Refusal) (D : Demands) (e : ℕ) → Reads g (got D e) → (t : Cells) × State t D
   reached_state (Ok r) D e h = (r.cells, h.1)
   reached_state (Err x) D e h = absurd h
 
@@ -110,7 +110,7 @@ module _ (cs : List Constant) where
   reads_either false x y u v p q = p
 
   -- an item that asks E, after those that ask D
-  module _ (t : List ℕ) (D E : Demands) (qs : List Ask) (S : State t D) (same-asks : (κ : List ℕ) → MeetsAll κ qs ↔ MeetsAll κ (asks_for cs E))
+  module _ (t : Cells) (D E : Demands) (qs : List Ask) (S : State t D) (same-asks : (κ : List ℕ) → MeetsAll κ qs ↔ MeetsAll κ (asks_for cs E))
       (R : Regular cs E) where
     fed_on : feed (S.asks ++ qs) nothing ≡ feed qs t
     fed_on = feed_append S.asks qs nothing ∙ ap (option_and_then (feed qs)) S.fed
@@ -124,30 +124,30 @@ module _ (cs : List Constant) where
         )
 
     fits_on : is_some (feed qs t) ≡ fitting cs (joined D E)
-    fits_on = ap is_some (sym fed_on) ∙ fits_asks cs (joined D E) (regular_joined D E S.regular R) (S.asks ++ qs) both_met
+    fits_on = ap is_some (sym fed_on) ∙ fits_asks cs (joined D E) (regular_joined D E S.regular R) (S.asks ++ qs) (λ κ K. both_met κ)
 
     reads_item : (vs : List Verb) (s : List ℕ) (at e : ℕ) → Reads (fits_to (feed qs t) at e) (fitted cs vs s (joined D E) at e)
     unfolding fitted
     reads_item vs s at e = go (feed qs t) refl
       where
-        go : (o : Option (List ℕ)) → feed qs t ≡ o → Reads (fits_to o at e) (choose (fitting cs (joined D E)) (got (joined D E) e) (refused 5 at))
+        go : (o : Option Cells) → feed qs t ≡ o → Reads (fits_to o at e) (choose (fitting cs (joined D E)) (got (joined D E) e) (refused 5 at))
         go (Some u) f =
             rw (choose_true (got (joined D E) e) (refused 5 at) (sym fits_on ∙ ap is_some f))
             (refl, record { asks = S.asks ++ qs; fed = fed_on ∙ f; alike = both_met; regular = regular_joined D E S.regular R })
         go None f = rw (choose_false (got (joined D E) e) (refused 5 at) (sym fits_on ∙ ap is_some f)) (refl, refl)
 
-  reads_then : (g : Result Reached Refusal) (x : Reading Demands) (f : ℕ → List ℕ → Result Reached Refusal) (h : Demands → ℕ → Reading Demands) → Reads g x
-      → ((t : List ℕ) (D : Demands) (p : ℕ) → State t D → Reads (f p t) (h D p)) → Reads (read_then g f) (and_then x h)
+  reads_then : (g : Result Reached Refusal) (x : Reading Demands) (f : ℕ → Cells → Result Reached Refusal) (h : Demands → ℕ → Reading Demands) → Reads g x
+      → ((t : Cells) (D : Demands) (p : ℕ) → State t D → Reads (f p t) (h D p)) → Reads (read_then g f) (and_then x h)
   unfolding and_then
   reads_then (Ok g) (got D e) f h r k = rw r.0 (k g.cells D e r.1)
   reads_then (Err g) (refused n p) f h r k = r
   reads_then (Ok g) (refused n p) f h r k = absurd r
   reads_then (Err g) (got D e) f h r k = absurd r
 
-  abbrev Agree : (ℕ → List ℕ → Result Reached Refusal) → (Demands → ℕ → Reading Demands) → Type 0
-  Agree f h = (at : ℕ) (t : List ℕ) (D : Demands) → State t D → Reads (f at t) (h D at)
+  abbrev Agree : (ℕ → Cells → Result Reached Refusal) → (Demands → ℕ → Reading Demands) → Type 0
+  Agree f h = (at : ℕ) (t : Cells) (D : Demands) → State t D → Reads (f at t) (h D at)
 
-  reads_parts : (f : ℕ → List ℕ → Result Reached Refusal) (h : Demands → ℕ → Reading Demands) → Agree f h → (n at : ℕ) (t : List ℕ) (D : Demands) → State t D
+  reads_parts : (f : ℕ → Cells → Result Reached Refusal) (h : Demands → ℕ → Reading Demands) → Agree f h → (n at : ℕ) (t : Cells) (D : Demands) → State t D
       → Reads (reads_by f n at t) (check_parts h n D at)
   unfolding reads_by check_parts
   reads_parts f h a zero at t D S = (refl, S)
@@ -183,13 +183,13 @@ module _ {cs : List Constant} {vs : List Verb} {ks sg : List ℕ} (X : Tables cs
         (leb-true 1 n (both_first (leb 1 n) (leb n 5) o), leb-true n 5 (both_second (leb 1 n) (leb n 5) o));
   }
 
-  reads_says : (φ : forms.Form) (at : ℕ) (t : List ℕ) (D : Demands) → State cs t D → Reads cs (says_to ks sg s (code_form φ) at t) (check_says cs vs s φ D at)
+  reads_says : (φ : forms.Form) (at : ℕ) (t : Cells) (D : Demands) → State cs t D → Reads cs (says_to ks sg s (code_form φ) at t) (check_says cs vs s φ D at)
   unfolding check_says
   reads_says (forms.ends e) at t D S = reads_item cs t D _ (says_asks ks sg s at) S (says_met at) (says_regular at) vs s at e
   reads_says forms.broken at t D S = (refl, refl)
   reads_says forms.no_verb at t D S = (refl, refl)
 
-  reads_test : (at : ℕ) (t : List ℕ) (D : Demands) → State cs t D → Reads cs (test_in ks s at t) (check_test cs vs s D at)
+  reads_test : (at : ℕ) (t : Cells) (D : Demands) → State cs t D → Reads cs (test_in ks s at t) (check_test cs vs s D at)
   unfolding test_in check_test
   reads_test at t D S =
       reads_unless cs (ltb (length s) (at + 6)) (forms.operator_form s (at + 1)) (stop reasons.Form at) fits (refused 3 at) _ (refl, refl)
@@ -207,8 +207,8 @@ module _ {cs : List Constant} {vs : List Verb} {ks sg : List ℕ} (X : Tables cs
 
   -- ---- nodes
 
-  reads_of : (k : Shape) (f : ℕ → List ℕ → Result Reached Refusal) (h : Demands → ℕ → Reading Demands) → Agree cs f h
-      → (at : ℕ) (t : List ℕ) (D : Demands) → State cs t D
+  reads_of : (k : Shape) (f : ℕ → Cells → Result Reached Refusal) (h : Demands → ℕ → Reading Demands) → Agree cs f h
+      → (at : ℕ) (t : Cells) (D : Demands) → State cs t D
       → Reads cs (if not (own_form s k at) then stop reasons.Form at else read_of ks sg s k f at t) (check_by cs vs s (named k) h D at)
   unfolding own_form read_of check_by says_in
   reads_of Says f h a at t D S = rw (form_is X s (length s) (at + 3)) (reads_says (forms.fact_form vs s (length s) (at + 3)) at t D S)
@@ -220,7 +220,7 @@ module _ {cs : List Constant} {vs : List Verb} {ks sg : List ℕ} (X : Tables cs
   reads_of Nothing f h a at t D S = (refl, refl)
 
   -- THE LAW
-  pub reads_node : (d at : ℕ) (t : List ℕ) (D : Demands) → State cs t D → Reads cs (read_in ks sg s d at t) (check_node cs vs s d D at)
+  pub reads_node : (d at : ℕ) (t : Cells) (D : Demands) → State cs t D → Reads cs (read_in ks sg s d at t) (check_node cs vs s d D at)
   unfolding read_in check_node
   reads_node zero at t D S = (refl, refl)
   reads_node (suc d) at t D S =

@@ -15,8 +15,8 @@ use Rattle.wire.proofs.Reading.{past_end}
 use Rattle.phrases.specs.Tables.{Tables}
 use Rattle.phrases.proofs.Model.{fact_is, next_is}
 use Rattle.nodes.specs.Tree.{shape_of, shape_at, end_of, end_in, tree_of, tree_in}
-use Rattle.nodes.specs.declared.tree.Shape.{Shape}
-use Rattle.nodes.specs.declared.tree.Shape.TheVariants.{Says, Test, All, Any, Not, Exists, Nothing}
+use Rattle.nodes.specs.declared.shape.Shape.{Shape}
+use Rattle.nodes.specs.declared.shape.Shape.TheVariants.{Says, Test, All, Any, Not, Exists, Nothing}
 
 pub by_bool : {P : Type 0} (b : Bool) → (b ≡ true → P) → (b ≡ false → P) → P
 by_bool true f g = f refl

@@ -8,8 +8,8 @@ use Rattle.model.specs.Bytes.{byte_at}
 use Rattle.model.specs.Readings.{expr_at, constraint_at, ends_by, nodes_by}
 use Rattle.phrases.specs.Phrases.{fact_by, fact_next}
 use Rattle.nodes.specs.Tree.{shape_at, end_of, end_in, tree_of, tree_in}
-use Rattle.nodes.specs.declared.tree.Shape.{Shape}
-use Rattle.nodes.specs.declared.tree.Shape.TheVariants.{Says, Test, All, Any, Not, Exists, Nothing}
+use Rattle.nodes.specs.declared.shape.Shape.{Shape}
+use Rattle.nodes.specs.declared.shape.Shape.TheVariants.{Says, Test, All, Any, Not, Exists, Nothing}
 
 -- n nodes, one on
 pub ends_none : (g : ℕ → ℕ) (n i at : ℕ) → n ≤ i → ends_by g (n - i) at ≡ at

@@ -1,11 +1,11 @@
 -- The tree of nodes in a request's bytes, and where it ends, as the code finds them: by the table of verbs, and nothing past the end of the bytes.
 use Rattle.std.specs.Prelude.{ℕ, zero, suc, ◌+◌, List, length, ◌==◌, nat_le, if◌then◌else◌}
-use Rattle.model.specs.Syntax.{Node, says, test, all_of, any_of, non, exists, end}
+use Rattle.model.specs.Syntax.{Node, Nodes, says, test, all_of, any_of, non, exists, end}
 use Rattle.model.specs.Bytes.{byte_at}
 use Rattle.model.specs.Readings.{expr_at, constraint_at, ends_by, nodes_by}
 use Rattle.phrases.specs.Phrases.{fact_by, fact_next}
-use Rattle.nodes.specs.declared.tree.Shape.{Shape}
-use Rattle.nodes.specs.declared.tree.Shape.TheVariants.{Says, Test, All, Any, Not, Exists, Nothing}
+use Rattle.nodes.specs.declared.shape.Shape.{Shape}
+use Rattle.nodes.specs.declared.shape.Shape.TheVariants.{Says, Test, All, Any, Not, Exists, Nothing}
 
 -- what a node is by its first byte
 unfoldable pub shape_of : ℕ → Shape
@@ -46,3 +46,7 @@ module _ (sg s : List ℕ) where
   unfoldable pub tree_in : ℕ → ℕ → Node
   tree_in zero at = all_of end
   tree_in (suc d) at = if nat_le (length s) at then all_of end else tree_of (shape_at s at) (tree_in d) (end_in d) at
+
+  -- n nodes, the first at `at`
+  abbrev pub nodes_in : ℕ → ℕ → ℕ → Nodes
+  nodes_in d n at = nodes_by (tree_in d) (end_in d) n at

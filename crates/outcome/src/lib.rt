@@ -3,11 +3,12 @@
 
 pub mod numbers;
 
-ghost use Rattle.std.specs.Prelude.{◌≡◌, List, [], ◌++◌, ℕ, ◌+◌, ◌≤◌, ◌<◌, length, take, drop};
-ghost use Rattle.model.specs.Decision.{report, refusal};
+ghost use Rattle.std.specs.Prelude.{◌≡◌, [], ◌++◌, ◌+◌, ◌≤◌, ◌<◌, length, take, drop};
 ghost use Rattle.outcome.specs.Line.{decimal, decision_line, side_word, refusal_line, line_of};
-ghost use Rattle.outcome.specs.Reported.{report_of};
+ghost use Rattle.outcome.specs.Reported.{side_number, report_of};
 ghost use Rattle.outcome.specs.Wrote.{Wrote};
+
+use slices::{Refusal, Side};
 
 // A decision, or one of the numbered refusals with a place: one outcome for each report (`specs/Reported.OneSpelling`).
 #[derive(Clone, Copy)]
@@ -16,40 +17,22 @@ pub enum Outcome {
     Allow(usize, usize, usize),
     // the counts of facts and rounds
     Deny(usize, usize),
-    // side policy, 1 to 6: the number and the place
-    PolicyRefused(u8, usize),
-    // side request, 1, 2, 3, 5 or 7: the number and the place
-    RequestRefused(u8, usize),
-    // side withdrawals, 1, 2, 3, 5 or 10: the number and the place
-    WithdrawalsRefused(u8, usize),
-    // side hierarchy, 1, 2, 3, 5 or 11: the number and the place
-    HierarchyRefused(u8, usize),
+    // from the input: side policy, 1 to 6; request, 1, 2, 3, 5 or 7; withdrawals, 1, 2, 3, 5 or 10; hierarchy, 1, 2, 3, 5 or 11
+    Refused(Side, Refusal),
     // 8
     TooManyFacts,
     // 9: the counts of facts and rounds
     TooManyAnswers(usize, usize),
 }
 
-// A refusal from the input, on the side of its slice.
-pub fn refused_on(side: u8, number: u8, place: usize) -> Outcome
-    requires { (1 ≤ side) × (side ≤ 4) }
-    ensures { (facts answers : List ℕ) → report_of result facts answers ≡ report (refusal number side place) 0 0 0 facts answers }
-{
-    if side == 1 {
-        return Outcome::PolicyRefused(number, place);
-    }
-    if side == 2 {
-        return Outcome::RequestRefused(number, place);
-    }
-    if side == 3 {
-        return Outcome::WithdrawalsRefused(number, place);
-    }
-    Outcome::HierarchyRefused(number, place)
-}
+// The numbers of the refusals that are of no slice.
+const FACTS: u8 = 8;
 
-// What the C interface returns: numbers alone.
+const ANSWERS: u8 = 9;
+
+// What the C interface returns: numbers alone, since C has no such enum.
 #[repr(C)]
-#[derive(Clone, Copy)]
+#[derive(Clone, Copy, Default)]
 pub struct Report {
     // 0 refused, 1 allow, 2 deny
     pub decision: u32,
@@ -63,7 +46,7 @@ pub struct Report {
     pub answers: u64,
 }
 
-// ---- each function writes to `out` from `at` on, and answers where what it wrote ends
+// ---- each function writes to `out` from `at` on, and answers where what it wrote ends: the buffer is lent and its bytes are promised, so no Display
 
 fn word(out: &mut [u8], at: usize, w: &[u8]) -> usize
     requires { at + length w.now ≤ length out.old }
@@ -81,7 +64,9 @@ fn digit(d: usize) -> u8
     48 + d as u8
 }
 
+// It calls itself: the first digit is written first and found last.
 // The digits of n, the last of them after those of n / 10.
+#[tactic(auto, using(crate::proofs::Decimals::one_length, crate::proofs::Decimals::more_length))]
 fn digits(out: &mut [u8], at: usize, n: usize) -> usize
     requires { at + length (decimal n) ≤ length out.old }
     ensures { Wrote out.old out.new at result (at + length (decimal n)) (take at out.old ++ decimal n) }
@@ -96,6 +81,7 @@ fn digits(out: &mut [u8], at: usize, n: usize) -> usize
 }
 
 // A word and a number, which has 20 digits at most.
+#[tactic(auto, using(crate::proofs::Decimals::twenty, crate::proofs::Lines::labelled_is))]
 fn labelled(out: &mut [u8], at: usize, w: &[u8], n: usize) -> usize
     requires { at + length w.now + 20 ≤ length out.old }
     ensures { Wrote out.old out.new at result (at + length w.now + 20)
@@ -116,31 +102,28 @@ fn counted(out: &mut [u8], at: usize, facts: usize, rounds: usize, answers: usiz
     word(out, end, b"\n")
 }
 
-fn side_word(out: &mut [u8], at: usize, side: u8) -> usize
-    requires { at + 13 ≤ length out.old }
-    ensures { Wrote out.old out.new at result (at + 13) (take at out.old ++ side_word side) }
+// The word of a slice, or of none.
+#[tactic(auto, unfolding(crate::specs::Line::side_word))]
+fn side_word(side: Option<Side>) -> &'static [u8]
+    ensures is { result.now ≡ side_word (side_number side) }
+    ensures short { length result.now ≤ 13 }
 {
-    if side == 1 {
-        return word(out, at, b" policy ");
+    match side {
+        Some(Side::Policy) => b" policy ",
+        Some(Side::Request) => b" request ",
+        Some(Side::Withdrawals) => b" withdrawals ",
+        Some(Side::Hierarchy) => b" hierarchy ",
+        None => b" none ",
     }
-    if side == 2 {
-        return word(out, at, b" request ");
-    }
-    if side == 3 {
-        return word(out, at, b" withdrawals ");
-    }
-    if side == 4 {
-        return word(out, at, b" hierarchy ");
-    }
-    word(out, at, b" none ")
 }
 
-fn refusal(out: &mut [u8], number: usize, side: u8, place: usize) -> usize
+#[tactic(auto, using(crate::proofs::Decimals::twenty))]
+fn refusal(out: &mut [u8], number: u8, side: Option<Side>, place: usize) -> usize
     requires { 96 ≤ length out.old }
-    ensures { Wrote out.old out.new 0 result 96 (refusal_line number side place) }
+    ensures { Wrote out.old out.new 0 result 96 (refusal_line number (side_number side) place) }
 {
-    let mut end = labelled(out, 0, b"refused ", number);
-    end = side_word(out, end, side);
+    let mut end = labelled(out, 0, b"refused ", number as usize);
+    end = word(out, end, side_word(side));
     end = digits(out, end, place);
     word(out, end, b"\n")
 }
@@ -160,11 +143,8 @@ pub fn line(o: Outcome, out: &mut [u8; 96]) -> usize
             let end = word(out, 0, b"deny");
             counted(out, end, facts, rounds, 0)
         }
-        Outcome::PolicyRefused(number, place) => refusal(out, number as usize, 1, place),
-        Outcome::RequestRefused(number, place) => refusal(out, number as usize, 2, place),
-        Outcome::WithdrawalsRefused(number, place) => refusal(out, number as usize, 3, place),
-        Outcome::HierarchyRefused(number, place) => refusal(out, number as usize, 4, place),
-        Outcome::TooManyFacts => refusal(out, 8, 0, 0),
-        Outcome::TooManyAnswers(_, _) => refusal(out, 9, 0, 0),
+        Outcome::Refused(side, why) => refusal(out, why.reason.number(), Some(side), why.place),
+        Outcome::TooManyFacts => refusal(out, FACTS, None, 0),
+        Outcome::TooManyAnswers(_, _) => refusal(out, ANSWERS, None, 0),
     }
 }

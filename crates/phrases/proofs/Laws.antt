@@ -3,7 +3,9 @@ use Rattle.std.proofs.Common.{◌≡◌, ℕ, suc, ◌+◌, ◌-◌, ◌*◌, �
 use Rattle.std.proofs.Common.{Some, option_and_then, Ok, Err, refl, arith}
 use Rattle.model.specs.Bytes.{byte_at, both, choose}
 use Rattle.model.specs.Forms.{operator_form, operators_form}
-use Rattle.kinds.specs.Cells.{alike, asked, feed}
+use Rattle.limits.specs.declared.Kind.TheVariants.{Principal}
+use Rattle.kinds.specs.declared.Term.TheVariants.{Any}
+use Rattle.kinds.specs.Cells.{Cells, same, asked, feed}
 use Rattle.kinds.specs.Asks.{kind_term}
 use Rattle.kinds.proofs.Laws.{feed_append}
 use Rattle.phrases.specs.declared.Fault.TheVariants.{Broken}
@@ -69,36 +71,37 @@ module _ (s : List ℕ) (n i p : ℕ) where
 -- ---- kinds
 
 module _ (ks sg s : List ℕ) (n i : ℕ) where
-  pub params_step : (k p : ℕ) (t : List ℕ) → i < n → feed (params_asks ks sg s (n - i) (k + i) (p + 2 * i)) t
+  pub params_step : (k p : ℕ) (t : Cells) → i < n → feed (params_asks ks sg s (n - i) (k + i) (p + 2 * i)) t
       ≡ option_and_then (feed (params_asks ks sg s (n - (i + 1)) (k + (i + 1)) (p + 2 * (i + 1))))
-      (alike t (place_at ks s (p + 2 * i)) (kind_term (byte_at sg (k + i))))
-  unfolding params_asks feed asked
+      (asked (same (place_at ks s (p + 2 * i)) (kind_term (byte_at sg (k + i)))) t)
+  unfolding params_asks feed
   params_step k p t h = let e : k + i + 1 ≡ k + (i + 1) = omega arith in rw (left n i h, ← next p 2 i, ← e)
 
-  pub params_end : (k p : ℕ) (t : List ℕ) → n ≤ i → feed (params_asks ks sg s (n - i) k p) t ≡ Some t
+  pub params_end : (k p : ℕ) (t : Cells) → n ≤ i → feed (params_asks ks sg s (n - i) k p) t ≡ Some t
   unfolding params_asks feed
   params_end k p t h = rw (done n i h)
 
-  pub speakers_step : (p : ℕ) (t : List ℕ) → i < n → feed (levels_asks ks sg s (n - i) (p + 3 * i)) t
-      ≡ option_and_then (feed (levels_asks ks sg s (n - (i + 1)) (p + 3 * (i + 1)))) (alike t (place_at ks s (p + 3 * i)) 8)
-  unfolding levels_asks feed asked
+  pub speakers_step : (p : ℕ) (t : Cells) → i < n → feed (levels_asks ks sg s (n - i) (p + 3 * i)) t
+      ≡ option_and_then (feed (levels_asks ks sg s (n - (i + 1)) (p + 3 * (i + 1)))) (asked (same (place_at ks s (p + 3 * i)) (Some (Any Principal))) t)
+  unfolding levels_asks feed
   speakers_step p t h = rw (left n i h, ← next p 3 i)
 
-  pub speakers_end : (p : ℕ) (t : List ℕ) → n ≤ i → feed (levels_asks ks sg s (n - i) p) t
-      ≡ option_and_then (feed (params_asks ks sg s (arity_by sg (byte_at s (p + 2))) (4 * byte_at s (p + 2) + 1) (p + 3))) (alike t (place_at ks s p) 8)
-  unfolding levels_asks feed asked
+  pub speakers_end : (p : ℕ) (t : Cells) → n ≤ i → feed (levels_asks ks sg s (n - i) p) t
+      ≡ option_and_then (feed (params_asks ks sg s (arity_by sg (byte_at s (p + 2))) (4 * byte_at s (p + 2) + 1) (p + 3)))
+      (asked (same (place_at ks s p) (Some (Any Principal))) t)
+  unfolding levels_asks feed
   speakers_end p t h = rw (done n i h)
 
-  pub facts_step : (p : ℕ) (t : List ℕ) → i < n → feed (facts_asks ks sg s (n - i) p) t
+  pub facts_step : (p : ℕ) (t : Cells) → i < n → feed (facts_asks ks sg s (n - i) p) t
       ≡ option_and_then (feed (facts_asks ks sg s (n - (i + 1)) (fact_next sg s p))) (feed (fact_asks ks sg s p) t)
   unfolding facts_asks
   facts_step p t h = rw (left n i h) (feed_append _ _ t)
 
-  pub facts_end : (p : ℕ) (t : List ℕ) → n ≤ i → feed (facts_asks ks sg s (n - i) p) t ≡ Some t
+  pub facts_end : (p : ℕ) (t : Cells) → n ≤ i → feed (facts_asks ks sg s (n - i) p) t ≡ Some t
   unfolding facts_asks feed
   facts_end p t h = rw (done n i h)
 
-module _ (ks s : List ℕ) (n i p : ℕ) (t : List ℕ) where
+module _ (ks s : List ℕ) (n i p : ℕ) (t : Cells) where
   pub tests_step : i < n → feed (tests_asks ks s (n - i) (p + 5 * i)) t
       ≡ option_and_then (feed (tests_asks ks s (n - (i + 1)) (p + 5 * (i + 1)))) (feed (test_asks ks s (p + 5 * i)) t)
   unfolding tests_asks

@@ -2,7 +2,7 @@
 use mathlib.Core.Path.{◌≡◌, refl, sym, ap, ap₂, ◌∙◌}
 use mathlib.Core.Logic.{⊎_elim}
 use mathlib.Core.Bool.{Bool, true, false, cond, ◌||◌}
-use Rattle.std.proofs.Common.{Result, Ok, Err, ◌==◌, nat_lt, if◌then◌else◌}
+use Rattle.std.proofs.Common.{Option, Some, None, Result, Ok, Err, ◌==◌, nat_lt, if◌then◌else◌}
 use mathlib.Core.List.Memᴰ
 use mathlib.Core.List.{List, [], ◌∷◌, ◌++◌, map, map-append, Memᴰ}
 use Prim.Native.Nat.{ℕ, zero, suc, ◌+◌, ◌-◌, ◌*◌, ◌≤◌, ◌<◌}
@@ -20,8 +20,11 @@ use Rattle.model.specs.Readings.{arity_of, expr_of, expr_at, exprs_at, constrain
 use Rattle.model.specs.Readings.{facts_end}
 use Rattle.model.specs.Forms as forms
 use Rattle.model.specs.Forms.{then_form, phrase_form, levels_form, fact_form, facts_form}
+use Rattle.limits.specs.declared.Kind.TheVariants.{Principal, Day}
+use Rattle.kinds.specs.declared.Term.{Term}
+use Rattle.kinds.specs.declared.Term.TheVariants.{Variable, Any}
 use Rattle.kinds.specs.Cells.{Ask, same}
-use Rattle.kinds.specs.Asks.{kind_term, var_term, term_of, place_term, ask_place, operator_asks, ask_test}
+use Rattle.kinds.specs.Asks.{kind_term, term_of, place_term, ask_place, operator_asks, ask_test}
 use Rattle.phrases.specs.declared.Fault.{Fault}
 use Rattle.phrases.specs.declared.Fault.TheVariants.{Broken, NoVerb}
 use Rattle.phrases.specs.Tables.{Tables}
@@ -169,14 +172,14 @@ module _ {cs : List Constant} {vs : List Verb} {ks sg : List ℕ} (X : Tables cs
   term_of_law : (x : ℕ) → term_by ks x ≡ term_of cs (expr_of x)
   unfolding term_by term_of
   term_of_law x =
-      ap (λ (k : ℕ). cond (eqb x today_code) 10 (cond (ltb x first_variable) (kind_term k) (var_term (x - first_variable)))) (X.kinds x)
+      ap (λ (k : ℕ). cond (eqb x today_code) (Some (Any Day)) (cond (ltb x first_variable) (kind_term k) (Some (Variable (x - first_variable))))) (X.kinds x)
       ∙ sym (of_expr (term_of cs) x)
 
   place_of : (x : ℕ) → place_by ks x ≡ place_term cs (expr_of x)
   unfolding place_by term_by place_term
   place_of x =
-      twice (eqb x today_code) 12 10 _
-      ∙ ap (λ (k : ℕ). cond (eqb x today_code) 12 (cond (ltb x first_variable) (kind_term k) (var_term (x - first_variable)))) (X.kinds x)
+      twice (eqb x today_code) None (Some (Any Day)) _
+      ∙ ap (λ (k : ℕ). cond (eqb x today_code) None (cond (ltb x first_variable) (kind_term k) (Some (Variable (x - first_variable))))) (X.kinds x)
       ∙ sym (of_expr (place_term cs) x)
 
   module _ (s : List ℕ) where
@@ -193,7 +196,7 @@ module _ {cs : List Constant} {vs : List Verb} {ks sg : List ℕ} (X : Tables cs
     params_asks_law (j ∷ js) k p h =
         let z : k + 0 ≡ k = omega arith in
         ap₂ ◌∷◌
-        (ap₂ (λ (a b : ℕ). same a (kind_term b)) (place_is p) (ap (byte_at sg) (sym z) ∙ h 0 (omega arith)))
+        (ap₂ (λ (a : Option Term) (b : ℕ). same a (kind_term b)) (place_is p) (ap (byte_at sg) (sym z) ∙ h 0 (omega arith)))
         (params_asks_law js (k + 1) (p + 2) (λ i l. let w : k + 1 + i ≡ k + suc i = omega arith in ap (byte_at sg) w ∙ h (suc i) (omega arith)))
 
     words_asks : (v p : ℕ) → params_asks ks sg s (arity_by sg v) (4 * v + 1) p ≡ map (ask_place cs) (pair (param_kinds vs v) (exprs_at (arity_of vs v) s p))
@@ -208,8 +211,8 @@ module _ {cs : List Constant} {vs : List Verb} {ks sg : List ℕ} (X : Tables cs
 
     levels_asks_law : (m p : ℕ) → levels_asks ks sg s m p ≡ map (ask_place cs) (places vs (levels_at vs m s p))
     unfolding levels_asks levels_at
-    levels_asks_law zero p = ap₂ (λ (a : ℕ) (l : List Ask). same a 8 ∷ l) (place_is p) (words_asks (byte_at s (p + 2)) (p + 3))
-    levels_asks_law (suc m) p = ap₂ (λ (a : ℕ) (l : List Ask). same a 8 ∷ l) (place_is p) (levels_asks_law m (p + 3))
+    levels_asks_law zero p = ap₂ (λ (a : Option Term) (l : List Ask). same a (Some (Any Principal)) ∷ l) (place_is p) (words_asks (byte_at s (p + 2)) (p + 3))
+    levels_asks_law (suc m) p = ap₂ (λ (a : Option Term) (l : List Ask). same a (Some (Any Principal)) ∷ l) (place_is p) (levels_asks_law m (p + 3))
 
     pub fact_asks_law : (p : ℕ) → fact_asks ks sg s p ≡ map (ask_place cs) (places vs (fact_at vs s p))
     unfolding fact_asks fact_at
@@ -225,7 +228,7 @@ module _ {cs : List Constant} {vs : List Verb} {ks sg : List ℕ} (X : Tables cs
 
     pub test_asks_law : (p : ℕ) → test_asks ks s p ≡ ask_test cs (constraint_at s p)
     unfolding test_asks ask_test
-    test_asks_law p = ap₂ (λ (l r : ℕ). same l r ∷ operator_asks (byte_at s p) l) (term_is (p + 1)) (term_is (p + 3))
+    test_asks_law p = ap₂ (λ (l r : Option Term). same l r ∷ operator_asks (byte_at s p) l) (term_is (p + 1)) (term_is (p + 3))
 
     pub tests_asks_law : (n p : ℕ) → tests_asks ks s n p ≡ each (constraints_at n s p) (ask_test cs)
     unfolding tests_asks constraints_at

@@ -1,12 +1,15 @@
 -- Facts and constraints as the code reads them, by the two tables: what they are, where they end, their form, and what they ask of the kinds.
-use Rattle.std.specs.Prelude.{ℕ, zero, suc, ◌+◌, ◌-◌, ◌*◌, List, [], ◌∷◌, ◌++◌, ◌||◌, ◌==◌, nat_lt, nat_le, if◌then◌else◌, Result, Ok, Err}
+use Rattle.std.specs.Prelude.{ℕ, zero, suc, ◌+◌, ◌-◌, ◌*◌, List, [], ◌∷◌, ◌++◌, ◌||◌, ◌==◌, nat_lt, nat_le, if◌then◌else◌, Option, Some, None, Result, Ok, Err}
 use Rattle.model.specs.Limits.{max_nest, unlimited, first_variable, today_code}
 use Rattle.model.specs.Syntax.{Expr, Fact, flat, can_say}
 use Rattle.model.specs.Bytes.{byte_at, u16_at}
 use Rattle.model.specs.Readings.{expr_at, exprs_at}
 use Rattle.model.specs.Forms as forms
+use Rattle.limits.specs.declared.Kind.TheVariants.{Principal, Day}
+use Rattle.kinds.specs.declared.Term.{Term}
+use Rattle.kinds.specs.declared.Term.TheVariants.{Variable, Any}
 use Rattle.kinds.specs.Cells.{Ask, same}
-use Rattle.kinds.specs.Asks.{kind_term, var_term, operator_asks}
+use Rattle.kinds.specs.Asks.{kind_term, operator_asks}
 use Rattle.phrases.specs.declared.Fault.{Fault}
 use Rattle.phrases.specs.declared.Fault.TheVariants.{Broken, NoVerb}
 
@@ -73,20 +76,20 @@ module _ (sg s : List ℕ) (e : ℕ) where
 -- ---- kinds: expressions as terms
 
 -- in a constraint
-unfoldable pub term_by : List ℕ → ℕ → ℕ
+unfoldable pub term_by : List ℕ → ℕ → Option Term
 term_by ks x =
-    if x == today_code then 10
+    if x == today_code then Some (Any Day)
     else if nat_lt x first_variable then kind_term (byte_at ks x)
-    else var_term (x - first_variable)
+    else Some (Variable (x - first_variable))
 
 -- in a fact, where today has no fit
-unfoldable pub place_by : List ℕ → ℕ → ℕ
-place_by ks x = if x == today_code then 12 else term_by ks x
+unfoldable pub place_by : List ℕ → ℕ → Option Term
+place_by ks x = if x == today_code then None else term_by ks x
 
-abbrev pub term_at : List ℕ → List ℕ → ℕ → ℕ
+abbrev pub term_at : List ℕ → List ℕ → ℕ → Option Term
 term_at ks s p = term_by ks (u16_at s p)
 
-abbrev pub place_at : List ℕ → List ℕ → ℕ → ℕ
+abbrev pub place_at : List ℕ → List ℕ → ℕ → Option Term
 place_at ks s p = place_by ks (u16_at s p)
 
 -- ---- kinds: what is asked
@@ -99,8 +102,8 @@ module _ (ks sg s : List ℕ) where
 
   -- m speakers, principals as the subject is, and the phrase
   unfoldable pub levels_asks : ℕ → ℕ → List Ask
-  levels_asks zero p = same (place_at ks s p) 8 ∷ params_asks (arity_by sg (byte_at s (p + 2))) (4 * byte_at s (p + 2) + 1) (p + 3)
-  levels_asks (suc m) p = same (place_at ks s p) 8 ∷ levels_asks m (p + 3)
+  levels_asks zero p = same (place_at ks s p) (Some (Any Principal)) ∷ params_asks (arity_by sg (byte_at s (p + 2))) (4 * byte_at s (p + 2) + 1) (p + 3)
+  levels_asks (suc m) p = same (place_at ks s p) (Some (Any Principal)) ∷ levels_asks m (p + 3)
 
   unfoldable pub fact_asks : ℕ → List Ask
   fact_asks p = levels_asks (byte_at s p) (p + 1)

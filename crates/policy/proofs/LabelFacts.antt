@@ -1,17 +1,19 @@
 -- The label of a constant is a part of the policy's bytes.
-use mathlib.Core.Path.{◌≡◌, refl, sym, ◌∙◌, ap, ap₂, subst}
+use mathlib.Core.Path.{◌≡◌, refl, sym, ◌∙◌, ap}
+use mathlib.Core.Logic.Dec
+use Rattle.std.specs.Prelude.{Result, Ok, Err, if◌then◌else◌}
 use mathlib.Core.Bool.{Bool, true, false}
 use mathlib.Core.List.{List, [], map}
 use Prim.Native.Nat.{ℕ, ◌+◌, ◌-◌, ◌≤◌, ◌<◌}
 use native.Mathlib.Omega.{arith}
 use native.Mathlib.Decide.{dec_lt}
-use lib.ListN.{length, get_or, take, drop, get_or-eq_default}
 use borrow.Author.Tests.{lt-ltb, le-ltb}
-use Rattle.wire.proofs.Reading.{choose_true, choose_false, on_yes, on_no}
+use lib.ListN.{length, get_or, take, drop, get_or-eq_default}
+use Rattle.wire.proofs.Reading.{choose_true, choose_false}
 use Rattle.model.specs.Limits.{max_constants}
 use Rattle.model.specs.Syntax.{Constant}
 use Rattle.model.specs.Kinds.{no_constant}
-use Rattle.model.specs.Bytes.{byte_at, u16_at, bytes_at, choose, Reading, got, refused}
+use Rattle.model.specs.Bytes.{byte_at, u16_at, Reading, got}
 use Rattle.model.specs.Readings.{item_end, ends_by, has_label, constant_read_at}
 use Rattle.model.specs.Forms.{constant_form}
 use Rattle.model.specs.Policies.{Item, contents, headed, ended, constant_item, Accepted, assertions_from, verbs_from, constants_from, read_policy}
@@ -19,25 +21,15 @@ use Rattle.model.proofs.ReadFacts.{choose_yes, and_then_got}
 use Rattle.policy.specs.declared.Index.{Index}
 use Rattle.policy.specs.declared.Part.{Part}
 use Rattle.slices.specs.Items.{constants_at}
-use Rattle.policy.specs.Index.{held, index_of, refusal, handed_out, label_in, label_of, no_part, part_at, label_part}
+use Rattle.policy.specs.Index.{held, index_of, handed_out, label_in, label_of, no_part, part_at, label_part}
 use Rattle.names.proofs.FormFacts.{constant_within, constant_two}
 use Rattle.slices.proofs.ListFacts.{list_got, items_length, items_starts, contents_at, contents_length, starts_at_law}
 use Rattle.names.proofs.ItemFacts.{constant_reads}
 use Rattle.policy.proofs.TableFacts.{held_at, kind_is}
-use Rattle.policy.proofs.PolicyFacts.{Constants, constants_counted, constants_right}
+use Rattle.policy.proofs.PolicyFacts.{Constants, constants_counted, constants_right, accepted_by, index_got, refused_got}
 use Rattle.model.proofs.PolicyReader.{policy_is}
 use Rattle.model.specs.Policies.{computed_policy}
 use Rattle.model.proofs.ByteFacts.{part_is}
-
-abbrev pub slice : List ℕ → Part → List ℕ
-slice s r = take (r.to - r.from) (drop r.from s)
-
-pub record Within (s : List ℕ) (r : Part) : Type 0 where
-  pub ordered : r.from ≤ r.to
-  pub inside : r.to ≤ length s
-
-none_within : (s : List ℕ) → Within s no_part
-none_within s = record { ordered = omega arith; inside = omega arith }
 
 -- ---- what an accepted policy has
 
@@ -85,108 +77,121 @@ module _ (s : List ℕ) (A : Accepted) (e : ℕ) (h : read_policy s ≡ got A e)
   unfolding index_of constant_read_at
   kind_at c l = kind_is (contents A.constants) c ∙ ap (λ (d : Constant). d.kind) (constant_at c l)
 
-  part_at_law : (c : ℕ) → c < u16_at s 5 → label_part (index_of A) s c ≡ choose (has_label (byte_at s (ends_by (item_end s) c 7 + 1)))
-      (part_at s (ends_by (item_end s) c 7)) no_part
-  unfolding label_part
-  part_at_law c l = choose_true _ _ (lt-ltb c _ (rw counts l)) ∙ ap₂ (λ (k o : ℕ). choose (has_label k) (part_at s o) no_part) (kind_at c l) (offset_at c l)
-
-  no_part_law : (c : ℕ) → u16_at s 5 ≤ c → label_part (index_of A) s c ≡ no_part
-  unfolding label_part
-  no_part_law c l = choose_false _ _ (le-ltb c _ (rw counts l))
-
   no_constant_law : (c : ℕ) → u16_at s 5 ≤ c → get_or (contents A.constants) c no_constant ≡ no_constant
   no_constant_law c l =
       ap (λ (is : List (Item Constant)). get_or (contents is) c no_constant) there.constants
       ∙ get_or-eq_default (contents (constants_at s (u16_at s 5) 7)) no_constant (rw (contents_length (constant_read_at s) (item_end s) (u16_at s 5) 7) l)
 
-none_refused : (s : List ℕ) (n p c : ℕ) → label_part (refusal n p) s c ≡ no_part
-unfolding label_part refusal
-none_refused s n p c = choose_false _ _ (le-ltb c 0 (omega arith))
+-- ---- as the code takes it: x is what the reader handed out
 
--- ---- the label, and where it stands
+module _ (s : List ℕ) (x : Index) (i : Ok x ≡ handed_out (read_policy s)) where
+  read_as : (A : Accepted) × (e : ℕ) × (read_policy s ≡ got A e)
+  read_as = accepted_by (read_policy s) x i
 
--- the part of a constant of right form
-module _ (s : List ℕ) (at : ℕ) (f : constant_form s at ≡ true) where
-  label_slice : (b : Bool) → slice s (choose b (part_at s at) no_part) ≡ choose b (bytes_at (byte_at s at - 1) s (at + 2)) []
-  unfolding choose item_end
-  label_slice true =
-      let w = constant_within s at f in
-      let t = constant_two s at f in
-      let e : at + 1 + byte_at s at - (at + 2) ≡ byte_at s at - 1 = omega arith in
-      ap (λ (n : ℕ). take n (drop (at + 2) s)) e ∙ part_is (byte_at s at - 1) s (at + 2) (omega arith)
-  label_slice false = refl
+  index_is : x ≡ index_of read_as.0
+  index_is = index_got (read_policy s) x i read_as.0 read_as.1 read_as.2
 
-  label_within : (b : Bool) → Within s (choose b (part_at s at) no_part)
-  unfolding choose item_end
-  label_within true = let w = constant_within s at f in let t = constant_two s at f in record { ordered = omega arith; inside = omega arith }
-  label_within false = none_within s
+  count_is : x.constants ≡ u16_at s 5
+  count_is = ap (λ (y : Index). y.constants) index_is ∙ counts s read_as.0 read_as.1 read_as.2
+
+  pub few : x.constants ≤ max_constants
+  few = rw count_is (there s read_as.0 read_as.1 read_as.2).few
+
+  label_read : (c : ℕ) → (get_or (contents read_as.0.constants) c no_constant).label ≡ label_of s c
+  unfolding label_of label_in
+  label_read c = ap (λ (r : Reading Accepted). label_in r c) (sym read_as.2)
+
+  module _ (c : ℕ) where
+    pub label_past : x.constants ≤ c → [] ≡ label_of s c
+    label_past l =
+        sym (ap (λ (d : Constant). d.label) (no_constant_law s read_as.0 read_as.1 read_as.2 c (omega (arith, count_is, l)))) ∙ label_read c
+
+    module _ (l : c < x.constants) where
+      abbrev at : ℕ
+      at = get_or x.constant_at c 0
+
+      numbered : c < u16_at s 5
+      numbered = omega (arith, count_is, l)
+
+      at_is : at ≡ ends_by (item_end s) c 7
+      at_is = ap (λ (y : Index). get_or y.constant_at c 0) index_is ∙ offset_at s read_as.0 read_as.1 read_as.2 c numbered
+
+      formed : constant_form s at ≡ true
+      formed = rw at_is ((there s read_as.0 read_as.1 read_as.2).right c numbered)
+
+      kind_read : get_or x.kinds c 0 ≡ byte_at s (at + 1)
+      kind_read =
+          ap (λ (y : Index). get_or y.kinds c 0) index_is ∙ kind_at s read_as.0 read_as.1 read_as.2 c numbered
+          ∙ ap (λ (p : ℕ). byte_at s (p + 1)) (sym at_is)
+
+      labelled : (constant_read_at s at).label ≡ label_of s c
+      labelled =
+          ap (λ (p : ℕ). (constant_read_at s p).label) at_is
+          ∙ sym (ap (λ (d : Constant). d.label) (constant_at s read_as.0 read_as.1 read_as.2 c numbered)) ∙ label_read c
+
+      pub stands : (2 ≤ byte_at s at) × (at + 1 + byte_at s at ≤ length s)
+      unfolding item_end
+      stands = (constant_two s at formed, constant_within s at formed)
+
+      pub label_other : has_label (get_or x.kinds c 0) ≡ false → [] ≡ label_of s c
+      unfolding constant_read_at
+      label_other h = sym (choose_false _ _ (ap has_label (sym kind_read) ∙ h)) ∙ labelled
+
+      pub label_there : has_label (get_or x.kinds c 0) ≡ true → (r : ℕ) → r ≡ byte_at s at
+          → take (at + 1 + r - (at + 2)) (drop (at + 2) s) ≡ label_of s c
+      unfolding constant_read_at
+      label_there h r e =
+          let w = stands in
+          let n : at + 1 + r - (at + 2) ≡ byte_at s at - 1 = omega arith in
+          ap (λ (n : ℕ). take n (drop (at + 2) s)) n ∙ part_is (byte_at s at - 1) s (at + 2) (omega arith)
+          ∙ sym (choose_true _ _ (ap has_label (sym kind_read) ∙ h)) ∙ labelled
+
+pub label_refused : (s : List ℕ) (c n p : ℕ) → Err (n, p) ≡ handed_out (read_policy s) → [] ≡ label_of s c
+unfolding label_of label_in
+label_refused s c n p i = ap (λ (r : Reading Accepted). label_in r c) (sym (refused_got (read_policy s) n p i))
+
+-- ---- the part
+
+abbrev pub slice : List ℕ → Part → List ℕ
+slice s p = take (p.to - p.from) (drop p.from s)
+
+pub record Within (s : List ℕ) (p : Part) : Type 0 where
+  pub ordered : p.from ≤ p.to
+  pub inside : p.to ≤ length s
+
+none_within : (s : List ℕ) → Within s no_part
+none_within s = record { ordered = omega arith; inside = omega arith }
 
 module _ (s : List ℕ) (c : ℕ) where
   pub label_is : slice s (label_part (handed_out (read_policy s)) s c) ≡ label_of s c
-  unfolding label_of label_in handed_out constant_read_at
-  label_is = go (read_policy s) refl
+  unfolding label_part
+  label_is = go (handed_out (read_policy s)) refl
     where
-      go : (r : Reading Accepted) → read_policy s ≡ r → slice s (label_part (handed_out r) s c) ≡ label_in r c
-      go (got A e) h = by (dec_lt c (u16_at s 5))
+      go : (r : Result Index (ℕ × ℕ)) → r ≡ handed_out (read_policy s) → slice s (label_part r s c) ≡ label_of s c
+      go (Ok x) i = by (dec_lt c x.constants)
         where
-          by : Dec (c < u16_at s 5) → slice s (label_part (index_of A) s c) ≡ (get_or (contents A.constants) c no_constant).label
-          by (yes l) =
-              let at = ends_by (item_end s) c 7 in
-              ap (slice s) (part_at_law s A e h c l) ∙ label_slice s at ((there s A e h).right c l) (has_label (byte_at s (at + 1)))
-              ∙ sym (ap (λ (d : Constant). d.label) (constant_at s A e h c l))
-          by (no l) = ap (slice s) (no_part_law s A e h c (omega arith)) ∙ sym (ap (λ (d : Constant). d.label) (no_constant_law s A e h c (omega arith)))
-      go (refused n p) h = ap (slice s) (none_refused s n p c)
+          kinds : c < x.constants → (b : Bool) → has_label (get_or x.kinds c 0) ≡ b
+              → slice s (if b then part_at s (get_or x.constant_at c 0) else no_part) ≡ label_of s c
+          kinds l true h = label_there s x i c l h _ refl
+          kinds l false h = label_other s x i c l h
+
+          by : Dec (c < x.constants) → slice s (label_part (Ok x) s c) ≡ label_of s c
+          by (yes l) = rw (lt-ltb c x.constants l) (kinds l (has_label (get_or x.kinds c 0)) refl)
+          by (no l) = rw (le-ltb c x.constants (omega arith)) (label_past s x i c (omega arith))
+      go (Err (n, p)) i = label_refused s c n p i
 
   pub label_inside : Within s (label_part (handed_out (read_policy s)) s c)
-  unfolding handed_out
-  label_inside = go (read_policy s) refl
+  unfolding label_part
+  label_inside = go (handed_out (read_policy s)) refl
     where
-      go : (r : Reading Accepted) → read_policy s ≡ r → Within s (label_part (handed_out r) s c)
-      go (got A e) h = by (dec_lt c (u16_at s 5))
+      go : (r : Result Index (ℕ × ℕ)) → r ≡ handed_out (read_policy s) → Within s (label_part r s c)
+      go (Ok x) i = by (dec_lt c x.constants)
         where
-          by : Dec (c < u16_at s 5) → Within s (label_part (index_of A) s c)
-          by (yes l) = subst (Within s) (sym (part_at_law s A e h c l)) (label_within s (ends_by (item_end s) c 7) ((there s A e h).right c l)
-              (has_label (byte_at s (ends_by (item_end s) c 7 + 1))))
-          by (no l) = subst (Within s) (sym (no_part_law s A e h c (omega arith))) (none_within s)
-      go (refused n p) h = subst (Within s) (sym (none_refused s n p c)) (none_within s)
+          kinds : c < x.constants → (b : Bool) → Within s (if b then part_at s (get_or x.constant_at c 0) else no_part)
+          kinds l true = let w = stands s x i c l in record { ordered = omega arith; inside = omega arith }
+          kinds l false = none_within s
 
-  -- what the code needs on the way
-  pub few_constants_law : (handed_out (read_policy s)).constants ≤ max_constants
-  unfolding handed_out refusal
-  few_constants_law = go (read_policy s) refl
-    where
-      go : (r : Reading Accepted) → read_policy s ≡ r → (handed_out r).constants ≤ max_constants
-      go (got A e) h = rw (counts s A e h) (there s A e h).few
-      go (refused n p) h = omega arith
-
-  pub constant_stands : c < (handed_out (read_policy s)).constants → item_end s (get_or (handed_out (read_policy s)).constant_at c 0) ≤ length s
-  unfolding handed_out refusal
-  constant_stands = go (read_policy s) refl
-    where
-      go : (r : Reading Accepted) → read_policy s ≡ r → c < (handed_out r).constants → item_end s (get_or (handed_out r).constant_at c 0) ≤ length s
-      go (got A e) h l =
-          let k : c < u16_at s 5 = rw (counts s A e h) at l in
-          rw (offset_at s A e h c k) (constant_within s (ends_by (item_end s) c 7) ((there s A e h).right c k))
-      go (refused n p) h l = absurd (omega arith)
-
--- ---- as the code takes it: x is what the reader handed out
-
-module _ (s : List ℕ) (x : Index) (h : x ≡ handed_out (read_policy s)) (c : ℕ) where
-  pub few : x.constants ≤ max_constants
-  few = rw h (few_constants_law s c)
-
-  pub stands : c < x.constants → item_end s (get_or x.constant_at c 0) ≤ length s
-  stands = rw h (constant_stands s c)
-
-  pub part_there : (r : ℕ) → c < x.constants → has_label (get_or x.kinds c 0) ≡ true → r ≡ byte_at s (get_or x.constant_at c 0)
-      → record { from = get_or x.constant_at c 0 + 2; to = get_or x.constant_at c 0 + 1 + r } ≡ label_part (handed_out (read_policy s)) s c
-  unfolding label_part
-  part_there r l k e = rw (← h, e) (on_yes _ _ _ _ (lt-ltb _ _ l) (on_yes _ _ _ _ k refl))
-
-  pub part_other : c < x.constants → has_label (get_or x.kinds c 0) ≡ false → no_part ≡ label_part (handed_out (read_policy s)) s c
-  unfolding label_part
-  part_other l k = rw (← h) (on_yes _ _ _ _ (lt-ltb _ _ l) (on_no _ _ _ _ k refl))
-
-  pub part_past : x.constants ≤ c → no_part ≡ label_part (handed_out (read_policy s)) s c
-  unfolding label_part
-  part_past l = rw (← h) (on_no _ _ _ _ (le-ltb _ _ l) refl)
+          by : Dec (c < x.constants) → Within s (label_part (Ok x) s c)
+          by (yes l) = rw (lt-ltb c x.constants l) (kinds l (has_label (get_or x.kinds c 0)))
+          by (no l) = rw (le-ltb c x.constants (omega arith)) (none_within s)
+      go (Err (n, p)) i = none_within s

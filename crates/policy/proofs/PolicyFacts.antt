@@ -1,25 +1,27 @@
 -- From the lists to the whole policy.
 use mathlib.Core.Path.{◌≡◌, refl, sym, ◌∙◌, ap, ap₂, subst}
-use mathlib.Core.Bool.{true, false}
+use mathlib.Core.Bool.{Bool, true, false}
 use mathlib.Core.List.{List}
 use Prim.Native.Nat.{ℕ, ◌+◌, ◌≤◌, ◌<◌}
 use lib.ListN.{length}
-use Rattle.wire.proofs.Reading.{choose_true, choose_false}
-use Rattle.model.specs.Limits.{max_constants, max_verbs, max_assertions, policy_versions}
+use Rattle.std.specs.Prelude.{Ok, Err, if◌then◌else◌}
+use Rattle.model.specs.Limits.{max_constants, max_verbs, max_assertions, policy_versions, length_at, header_bytes}
 use Rattle.model.specs.Syntax.{Assertion, Constant, Verb}
-use Rattle.model.specs.Bytes.{byte_at, u16_at, Reading, got, and_then}
+use Rattle.model.specs.Bytes.{byte_at, u16_at, choose, Reading, got, refused, and_then}
 use Rattle.model.specs.Readings.{item_end, ends_by, constant_read_at, verb_at, assertion_read_at, assertion_end}
 use Rattle.model.specs.Forms as forms
 use Rattle.model.specs.Forms.{ends, broken, no_verb, constant_form, verb_form, assertion_form}
 use Rattle.model.specs.Policies.{Item, contents, version_there, length_right, headed, ended, list_at, constant_item, verb_item, judged}
 use Rattle.model.specs.Policies.{assertion_by}
-use Rattle.model.specs.Policies.{assertion_item, Accepted, assertions_from}
+use Rattle.model.specs.Policies.{assertion_item, Accepted, assertions_from, verbs_from, constants_from, computed_policy, read_policy}
+use Rattle.model.proofs.PolicyReader.{policy_is}
 use Rattle.model.proofs.ReadFacts.{never, choose_yes, and_then_got}
 use Rattle.phrases.specs.Tables.{Tables}
 use Rattle.policy.specs.declared.Index.{Index}
-use Rattle.slices.specs.Steps.{Step, Next, Refused, step}
+use Rattle.slices.specs.Steps.{Next, Refused, step}
 use Rattle.slices.specs.Items.{constants_at, verbs_at, assertions_at}
-use Rattle.policy.specs.Index.{verb_table, index_of, refusal, handed_out, kinds_at, signatures_at, index_at}
+use Rattle.slices.specs.Lists.{headed_at}
+use Rattle.policy.specs.Index.{verb_table, index_of, handed_out, kinds_at, signatures_at, index_at}
 use Rattle.assertions.specs.Assertions.{item_at, assertions_by}
 use Rattle.slices.proofs.ListFacts.{Reads, Counted, step_refused, step_next, list_got, list_right, items_length, items_starts}
 use Rattle.slices.proofs.ListFacts.{contents_each}
@@ -106,7 +108,7 @@ module _ (s : List ℕ) (p : ℕ) (K : Constants s p) where
         (contents_each (constant_read_at s) (item_end s) (λ (c : Constant). c.kind ≤ 4) (u16_at s 5) 7 (λ j l. constant_kind s _ (constants_right j l)))
         (contents_each (verb_at s) (item_end s) Signed (u16_at s p) (p + 2) (λ j l. verb_signed s _ (verbs_right j l))))
 
-    -- what the reader answers from here on
+    -- what the model reads from here on
     abbrev rest : ℕ → Reading Accepted
     rest = assertions_from s (constants_at s (u16_at s 5) 7) (verbs_at s (u16_at s p) (p + 2))
 
@@ -131,45 +133,89 @@ module _ (s : List ℕ) (p : ℕ) (K : Constants s p) where
     unfolding index_at index_of
     index_is = rw (kinds_are_law s (u16_at s 5) 7, signatures_are) (simp (items_length, items_starts))
 
-    module _ (ks sg : List ℕ) (k : ks ≡ kinds_at s (u16_at s 5) 7) (g : sg ≡ signatures_at s (u16_at s p) (p + 2)) (y : Step)
-        (d : y ≡ assertions_by ks sg s q) where
-      rest_is : step (rest q) ≡ y
-      rest_is = sym (d ∙ ap₂ (λ (ks sg : List ℕ). assertions_by ks sg s q) k g ∙ assertions_are s _ _ read_tables q)
+    module _ (ks sg : List ℕ) (k : ks ≡ kinds_at s (u16_at s 5) 7) (g : sg ≡ signatures_at s (u16_at s p) (p + 2)) where
+      rest_is : step (rest q) ≡ assertions_by ks sg s q
+      rest_is = sym (ap₂ (λ (ks sg : List ℕ). assertions_by ks sg s q) k g ∙ assertions_are s _ _ read_tables q)
 
-      pub rest_counted : (e : ℕ) → y ≡ Next e → u16_at s q ≤ max_assertions
-      rest_counted e h = (rest_got e (rest_is ∙ h)).0.most
+      pub rest_counted : (e : ℕ) → Next e ≡ assertions_by ks sg s q → u16_at s q ≤ max_assertions
+      rest_counted e h = (rest_got e (rest_is ∙ sym h)).0.most
 
-      pub rest_taken : (e : ℕ) → y ≡ Next e → (z : Index) → z ≡ index_at s p q ks sg → z ≡ handed_out (rest q)
+      rest_taken : (e : ℕ) → Next e ≡ assertions_by ks sg s q → (z : Index) → z ≡ index_at s p q ks sg → Ok z ≡ handed_out (rest q)
       unfolding handed_out
-      rest_taken e h z i = i ∙ ap₂ (λ (ks sg : List ℕ). index_at s p q ks sg) k g ∙ index_is ∙ ap handed_out (sym (rest_got e (rest_is ∙ h)).1)
+      rest_taken e h z i =
+          ap Ok (i ∙ ap₂ (λ (ks sg : List ℕ). index_at s p q ks sg) k g ∙ index_is) ∙ ap handed_out (sym (rest_got e (rest_is ∙ sym h)).1)
 
-      pub rest_refused : (n r : ℕ) → y ≡ Refused n r → (z : Index) → z ≡ refusal n r → z ≡ handed_out (rest q)
+      rest_refused : (n r : ℕ) → Refused n r ≡ assertions_by ks sg s q → Err (n, r) ≡ handed_out (rest q)
       unfolding handed_out
-      rest_refused n r h z i = i ∙ ap handed_out (sym (step_refused (rest q) n r (rest_is ∙ h)))
+      rest_refused n r h = ap handed_out (sym (step_refused (rest q) n r (rest_is ∙ sym h)))
 
--- ---- one list after another
+-- ---- the reader's steps, as the code takes them
 
-module _ {A : Type 0} (r : Reading A) (f : A → ℕ → Reading Accepted) where
-  pub then_taken : (x : A) (e : ℕ) (z : Index) → r ≡ got x e → z ≡ handed_out (f x e) → z ≡ handed_out (and_then r f)
-  unfolding and_then
-  then_taken x e z h i = rw h i
+module _ (s : List ℕ) where
+  -- version and length
+  pub header_refused : (n p : ℕ) → Refused n p ≡ headed_at policy_versions s → Err (n, p) ≡ handed_out (read_policy s)
+  unfolding headed_at computed_policy headed choose handed_out
+  header_refused n p = rw policy_is (go (version_there policy_versions s) (length_right s) (constants_from s))
+    where
+      go : (a b : Bool) (x : Reading Accepted) → Refused n p ≡ (if a then (if b then Next header_bytes else Refused 2 length_at) else Refused 1 0)
+          → Err (n, p) ≡ handed_out (choose a (choose b x (refused 2 length_at)) (refused 1 0))
+      go true true x h = cc
+      go true false x h = cc
+      go false b x h = cc
 
-  pub then_refused : (y : Step) (n p : ℕ) (z : Index) → y ≡ step r → y ≡ Refused n p → z ≡ refusal n p → z ≡ handed_out (and_then r f)
-  unfolding and_then handed_out
-  then_refused y n p z d h i = rw (step_refused r n p (sym d ∙ h)) i
+  header_got : (p : ℕ) → Next p ≡ headed_at policy_versions s → read_policy s ≡ constants_from s
+  unfolding headed_at computed_policy headed choose
+  header_got p = rw policy_is (go (version_there policy_versions s) (length_right s))
+    where
+      go : (a b : Bool) → Next p ≡ (if a then (if b then Next header_bytes else Refused 2 length_at) else Refused 1 0)
+          → choose a (choose b (constants_from s) (refused 2 length_at)) (refused 1 0) ≡ constants_from s
+      go true true h = refl
+      go true false h = cc
+      go false b h = cc
 
--- ---- version and length
+  module _ (first : ℕ) (H : Next first ≡ headed_at policy_versions s) where
+    pub constants_refused : (n p : ℕ) → Refused n p ≡ step (list_at s 1 max_constants (constant_item s) 5) → Err (n, p) ≡ handed_out (read_policy s)
+    unfolding handed_out constants_from and_then
+    constants_refused n p h = rw (header_got first H, step_refused (list_at s 1 max_constants (constant_item s) 5) n p (sym h))
 
-module _ (s : List ℕ) (r : Reading Accepted) where
-  pub no_version : (z : Index) → version_there policy_versions s ≡ false → z ≡ refusal 1 0 → z ≡ handed_out (headed policy_versions s r)
-  unfolding headed handed_out
-  no_version z h i = i ∙ ap handed_out (sym (choose_false _ _ h))
+    module _ (p : ℕ) (K : Constants s p) where
+      constants_then : read_policy s ≡ verbs_from s (constants_at s (u16_at s 5) 7) p
+      unfolding constants_from and_then
+      constants_then = rw (header_got first H, K)
 
-  pub no_length : (z : Index) → version_there policy_versions s ≡ true → length_right s ≡ false → z ≡ refusal 2 1 → z ≡ handed_out (headed policy_versions s r)
-  unfolding headed handed_out
-  no_length z h k i = i ∙ ap handed_out (sym (choose_true _ _ h ∙ choose_false _ _ k))
+      pub verbs_refused : (n r : ℕ) → Refused n r ≡ step (list_at s 0 max_verbs (verb_item s) p) → Err (n, r) ≡ handed_out (read_policy s)
+      unfolding handed_out verbs_from and_then
+      verbs_refused n r h = rw (constants_then, step_refused (list_at s 0 max_verbs (verb_item s) p) n r (sym h))
 
-  pub header_right : (z : Index) → version_there policy_versions s ≡ true → length_right s ≡ true → z ≡ handed_out r → z ≡ handed_out
-      (headed policy_versions s r)
-  unfolding headed
-  header_right z h k i = i ∙ ap handed_out (sym (choose_true _ _ h ∙ choose_true _ _ k))
+      module _ (q : ℕ) (W : Verbs s p q) (ks sg : List ℕ) (k : ks ≡ kinds_at s (u16_at s 5) 7) (g : sg ≡ signatures_at s (u16_at s p) (p + 2)) where
+        verbs_then : read_policy s ≡ rest s p K q W q
+        unfolding verbs_from and_then
+        verbs_then = rw (constants_then, W)
+
+        pub assertions_refused : (n r : ℕ) → Refused n r ≡ assertions_by ks sg s q → Err (n, r) ≡ handed_out (read_policy s)
+        assertions_refused n r h = rw verbs_then (rest_refused s p K q W ks sg k g n r h)
+
+        pub all_taken : (e : ℕ) → Next e ≡ assertions_by ks sg s q → (z : Index) → z ≡ index_at s p q ks sg → Ok z ≡ handed_out (read_policy s)
+        all_taken e h z i = rw verbs_then (rest_taken s p K q W ks sg k g e h z i)
+
+-- ---- what was handed out, by what was read
+
+module _ (r : Reading Accepted) (x : Index) (i : Ok x ≡ handed_out r) where
+  pub accepted_by : (A : Accepted) × (e : ℕ) × (r ≡ got A e)
+  unfolding handed_out
+  accepted_by = go r refl
+    where
+      go : (y : Reading Accepted) → r ≡ y → (A : Accepted) × (e : ℕ) × (r ≡ got A e)
+      go (got A e) h = (A, e, h)
+      go (refused n p) h = absurd (let w : Ok x ≡ handed_out (refused n p) = i ∙ ap handed_out h in let z : ⊥ = cc in z)
+
+  pub index_got : (A : Accepted) (e : ℕ) → r ≡ got A e → x ≡ index_of A
+  unfolding handed_out
+  index_got A e h = let w : Ok x ≡ handed_out (got A e) = i ∙ ap handed_out h in cc
+
+pub refused_got : (r : Reading Accepted) (n p : ℕ) → Err (n, p) ≡ handed_out r → r ≡ refused n p
+unfolding handed_out
+refused_got (got A e) n p h = absurd (let z : ⊥ = cc in z)
+refused_got (refused m k) n p h =
+    let same : ◌≡◌ {A = ℕ × ℕ} (n, p) (m, k) = cc in
+    ap (λ (x : ℕ × ℕ). refused x.0 x.1) (sym same)

@@ -10,8 +10,8 @@ use borrow.Rule.Slice.PartMut.{put_mid}
 use lib.ListN.{length, set, take, drop, replicate, length-replicate, length-map, length-append}
 use lib.Seq.{sets, sets-eq, drop-drop}
 use Rattle.model.specs.Lists.{each}
-use Rattle.model.specs.Bytes.{byte_at, u16_at, choose}
-use Rattle.model.specs.Readings.{item_end, assertion_end}
+use Rattle.model.specs.Bytes.{byte_at, choose}
+use Rattle.model.specs.Readings.{item_end}
 use Rattle.slices.specs.Items.{starts_at}
 use Rattle.assertions.specs.Assertions.{issuer_read_at}
 use Rattle.policy.specs.Index.{held, kind_of, row_at, kinds_at, signatures_at}
@@ -57,6 +57,12 @@ part_put t r a k h l =
 
 one_less : (n i : ℕ) → i < n → n - i ≡ suc (n - (i + 1))
 one_less n i h = omega arith
+
+pub mul_less_none : (m n : ℕ) → m * (n - 0) ≡ m * n
+mul_less_none m n = ap (λ (k : ℕ). m * k) (let e : n - 0 ≡ n = omega arith in e)
+
+pub mul_one_less : (m n i : ℕ) → i < n → m * (n - i) ≡ m * (n - (i + 1)) + m
+mul_one_less m n i h = rw (one_less n i h) (Rattle.std.proofs.Math.Nat.mul-suc m (n - (i + 1)))
 
 module _ (g : ℕ → ℕ) where
   -- offsets
@@ -112,10 +118,6 @@ module _ (g : ℕ → ℕ) where
   done_rows f t n i j at h = rw (none_left n i at h)
 
 -- ---- the code's own tables
-
-pub assertion_next : (s : List ℕ) (at r : ℕ) → r ≡ u16_at s at → at + 2 + r ≡ assertion_end s at
-unfolding assertion_end
-assertion_next s at r e = rw e
 
 pub issuer_is : (at r : ℕ) → r ≡ at + 6 → r ≡ issuer_read_at at
 unfolding issuer_read_at

@@ -1,15 +1,16 @@
 -- What the policy reader hands out.
-use Rattle.std.specs.Prelude.{ℕ, suc, ◌+◌, ◌-◌, List, [], ◌∷◌, ◌++◌, map, length, get_or, replicate, eqb, ltb}
+use Rattle.std.specs.Prelude.{◌≡◌, ℕ, suc, ◌+◌, ◌-◌, List, [], ◌∷◌, ◌++◌, map, length, get_or, replicate, eqb, nat_lt, if◌then◌else◌, Result, Ok, Err}
 use Rattle.model.specs.Limits.{max_constants, max_verbs, max_assertions, principal}
 use Rattle.model.specs.Lists.{each, pad}
 use Rattle.model.specs.Syntax.{Constant, Verb}
 unfoldable pub use Rattle.model.specs.Labels.{label_in, label_of}
 use Rattle.model.specs.Bytes.{byte_at, u16_at, choose, Reading, got, refused}
 use Rattle.model.specs.Readings.{item_end, assertion_end, has_label}
-use Rattle.model.specs.Policies.{contents, offsets, Accepted}
+use Rattle.model.specs.Policies.{contents, offsets, Accepted, read_policy}
 use Rattle.slices.specs.Items.{starts_at}
 use Rattle.assertions.specs.Assertions.{issuer_read_at}
-use Rattle.policy.specs.declared.Answer.TheVariants as answers
+use Rattle.slices.specs.Steps.{number_of}
+use Rattle.slices.specs.declared.Refusal.{Refusal}
 use Rattle.policy.specs.declared.Index.{Index}
 use Rattle.policy.specs.declared.Part.{Part}
 
@@ -34,7 +35,6 @@ verb_table vs = held 260 (rows_of vs)
 
 unfoldable pub index_of : Accepted → Index
 index_of A = record {
-  answer = answers.Accepted;
   version = A.version;
   constants = length A.constants;
   verbs = length A.verbs;
@@ -47,24 +47,20 @@ index_of A = record {
   signatures = verb_table (contents A.verbs);
 }
 
-unfoldable pub refusal : ℕ → ℕ → Index
-refusal n p = record {
-  answer = answers.Refused n p;
-  version = 0;
-  constants = 0;
-  verbs = 0;
-  assertions = 0;
-  constant_at = replicate max_constants 0;
-  verb_at = replicate max_verbs 0;
-  assertion_at = replicate max_assertions 0;
-  issuer_at = replicate max_assertions 0;
-  kinds = replicate max_constants 0;
-  signatures = replicate 260 0;
-}
+-- ---- THE PROMISE: the index of an accepted policy, or a refusal's number and place, as the code gives it
 
-unfoldable pub handed_out : Reading Accepted → Index
-handed_out (got A e) = index_of A
-handed_out (refused n p) = refusal n p
+unfoldable pub handed_out : Reading Accepted → Result Index (ℕ × ℕ)
+handed_out (got A e) = Ok (index_of A)
+handed_out (refused n p) = Err (n, p)
+
+-- what the code's result says
+abbrev pub said : Result Index Refusal → Result Index (ℕ × ℕ)
+said (Ok x) = Ok x
+said (Err r) = Err (number_of r.reason, r.place)
+
+-- x is what the reader hands out of these bytes
+abbrev pub HandsOut : List ℕ → Index → Type 0
+HandsOut policy x = Ok x ≡ handed_out (read_policy policy)
 
 -- ---- the same as the code finds it, by offsets: the verbs' count at p, the assertions' at q
 
@@ -88,7 +84,6 @@ signatures_at s n p = held 260 (2 ∷ 1 ∷ 0 ∷ 0 ∷ each (starts_at (item_en
 
 unfoldable pub index_at : List ℕ → ℕ → ℕ → List ℕ → List ℕ → Index
 index_at s p q ks sg = record {
-  answer = answers.Accepted;
   version = byte_at s 0;
   constants = u16_at s 5;
   verbs = u16_at s p;
@@ -108,8 +103,7 @@ no_part = record { from = 0; to = 0 }
 abbrev pub part_at : List ℕ → ℕ → Part
 part_at s at = record { from = at + 2; to = at + 1 + byte_at s at }
 
-unfoldable pub label_part : Index → List ℕ → ℕ → Part
-label_part x s c =
-    choose (ltb c x.constants)
-    (choose (has_label (get_or x.kinds c 0)) (part_at s (get_or x.constant_at c 0)) no_part)
-    no_part
+unfoldable pub label_part : Result Index (ℕ × ℕ) → List ℕ → ℕ → Part
+label_part (Ok x) s c =
+    if nat_lt c x.constants then (if has_label (get_or x.kinds c 0) then part_at s (get_or x.constant_at c 0) else no_part) else no_part
+label_part (Err r) s c = no_part

@@ -2,7 +2,6 @@
 // or a refusal's number and place.
 #![tactic(auto)]
 
-use policy::Answer;
 use std::io::Read;
 use std::{fs, io};
 
@@ -10,27 +9,24 @@ const POLICIES: &str = "policies.bin";
 
 // The policy that `s` holds.
 fn case(rt: &impl Print, s: &[u8]) -> io::Result<()> {
-    let x = policy::read(s);
-    match x.answer {
-        Answer::Accepted => {
-            println!(rt; "accepted {} {} {}", x.constants, x.verbs, x.assertions)
-        }
-        Answer::Refused(n, place) => println!(rt; "refused {n} {place}"),
+    match policy::read(s) {
+        Ok(x) => println!(rt; "accepted {} {} {}", x.constants, x.verbs, x.assertions),
+        Err(why) => println!(rt; "refused {} {}", why.reason.number(), why.place),
     }
 }
 
 // Those that stand in `b`, one after the other.
 fn cases(rt: &impl Print, b: &[u8]) -> io::Result<()> {
-    let mut at = 0;
-    while 2 <= b.len() - at {
-        let from = at + 2;
-        let n = wire::u16_at(b, at);
-        if b.len() - from < n {
-            return Ok(());
+    // no chunks: each policy says its own length
+    let mut left = b;
+    while let Some((length, behind)) = left.split_at_checked(2) {
+        match behind.split_at_checked(wire::u16_at(length, 0)) {
+            Some((policy, rest)) => {
+                case(rt, policy)?;
+                left = rest;
+            }
+            None => return Ok(()),
         }
-        let to = from + n;
-        case(rt, &b[from..to])?;
-        at = to;
     }
     Ok(())
 }

@@ -6,9 +6,9 @@ use mathlib.Core.Option as option
 use mathlib.Core.Option.{Option, some}
 use mathlib.Core.List.Memᴰ
 use mathlib.Core.List.{List, [], ◌∷◌, ◌++◌, map, Memᴰ}
-use Prim.Native.Nat.{ℕ, ◌+◌, ◌-◌, ◌<◌}
+use Prim.Native.Nat.{ℕ, ◌<◌}
 use native.Mathlib.Omega.{arith}
-use lib.ListN.{length, get_or}
+use lib.ListN.{length}
 use lib.Seq.{ext_get_or}
 use lib.Dec.{T, eqb, ltb}
 use Rattle.model.specs.Limits.{version, max_day, max_depth, first_node_at, header_bytes, length_at, principal}
@@ -26,19 +26,19 @@ use Rattle.model.specs.Nodes.{check_node, request_of, safely, request_from, read
 use Rattle.model.proofs.ListFacts.{and_of, each_in, member_of, member_in}
 use Rattle.model.proofs.BindingFacts.{at_variable, same_variables}
 use Rattle.wire.proofs.Reading.{choose_true, choose_false}
-use Rattle.kinds.specs.Cells.{nothing}
+use Rattle.kinds.specs.Cells.{Cells, nothing}
 use Rattle.kinds.proofs.Model.{fits_low, kind_cell}
 use Rattle.phrases.specs.Tables.{Tables}
 use Rattle.phrases.specs.Marks.{none, marked}
 use Rattle.phrases.proofs.Sets.{marked_append, marked_length, mark_is}
 use Rattle.nodes.specs.Tree.{tree_in}
-use Rattle.std.specs.Prelude.{◌||◌, if◌then◌else◌, Some, None, Result, Ok, Err}
+use Rattle.std.specs.Prelude.{slice_get, ◌||◌, if◌then◌else◌, Some, None, Result, Ok, Err}
 use Rattle.slices.specs.Steps.{Next, Refused, number_of}
 use Rattle.slices.specs.Lists.{headed_at}
 use Rattle.slices.specs.declared.Refusal.{Refusal}
 use Rattle.safety.specs.Safety.{judged_in}
 use Rattle.safety.specs.declared.Judged.{Judged}
-use Rattle.request.specs.Requests.{said, answered, marks, handed_out, cell_kind, cell_kinds, accepted_in, ended_in, whole_in}
+use Rattle.request.specs.Requests.{said, answered, marks, handed_out, kind_in, cell_kind, cell_kinds, accepted_in, ended_in, whole_in}
 use Rattle.nodes.specs.declared.Reached.{Reached}
 use Rattle.request.specs.declared.Request.{Request}
 use Rattle.nodes.proofs.TreeLaws.{by_bool, tree_is}
@@ -97,7 +97,7 @@ some_known (some ws) fs t = (ws, refl)
 not_member : (v : ℕ) (l : List ℕ) → member v l ≡ false → Memᴰ v l → ⊥
 not_member v l e m = subst T e (member_in m)
 
-module _ (cs : List Constant) (vs : List Verb) (n : Node) (t : List ℕ) (S : State cs t (demands_in n vs)) (sound : Sound vs n)
+module _ (cs : List Constant) (vs : List Verb) (n : Node) (t : Cells) (S : State cs t (demands_in n vs)) (sound : Sound vs n)
     (safe : safe_request n ≡ true) where
   placed : (v : ℕ) → Memᴰ v (free n ++ binders n) → (k : ℕ) × Memᴰ (k, var v) (demands_in n vs).places
   placed v m =
@@ -116,15 +116,12 @@ module _ (cs : List Constant) (vs : List Verb) (n : Node) (t : List ℕ) (S : St
       ps : List (ℕ × Expr)
       ps = (demands_in n vs).places
 
-      cell : (kind_of ps v ≡ 0 → ⊥) → get_or t v 0 ≡ kind_of ps v + 7
-      cell h = kind_cell cs (demands_in n vs) S.regular S.asks S.alike t S.fed v h
-
-      go : (b : Bool) → member v (free n ++ binders n) ≡ b → (if b then get_or t v 0 - 7 else 0) ≡ kind_of ps v
+      go : (b : Bool) → member v (free n ++ binders n) ≡ b → (if b then kind_in (slice_get t v) else 0) ≡ kind_of ps v
       go true e =
           let p = placed v (member_of v (free n ++ binders n) (true_T _ e)) in
           let h : kind_of ps v ≡ 0 → ⊥ = kind_some ps v p.0 (λ q m. (S.regular.places q m).0) p.1 in
-          let c = cell h in
-          omega arith
+          let c = kind_cell cs (demands_in n vs) S.regular S.asks S.alike t S.fed v h in
+          rw c.1 c.2
       go false e =
           sym (kind_none ps v (λ k m. not_member v (free n ++ binders n) e
           (⊎_elim (Memᴰ.append_left _) (Memᴰ.append_right (free n)) (place_used vs n v k m))))
@@ -139,7 +136,7 @@ module _ {cs : List Constant} {vs : List Verb} {ks sg : List ℕ} (X : Tables cs
   node = node_at vs s max_depth first_node_at
 
   -- an accepted node: safe or not
-  module _ (e : ℕ) (t : List ℕ) (S : State cs t (demands_in node vs)) (sound : Sound vs node) where
+  module _ (e : ℕ) (t : Cells) (S : State cs t (demands_in node vs)) (sound : Sound vs node) where
     low : Small node
     low = node_small vs node sound (fits_low cs (demands_in node vs) S.regular (true_T _ (state_fits cs t (demands_in node vs) S)))
 

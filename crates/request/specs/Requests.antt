@@ -1,5 +1,5 @@
 -- What the request reader hands out.
-use Rattle.std.specs.Prelude.{ℕ, ◌-◌, List, map, cond, length, get_or, ◌==◌, nat_lt, ◌||◌, if◌then◌else◌, Option, Some, None, Result, Ok, Err}
+use Rattle.std.specs.Prelude.{ℕ, List, map, cond, length, get_or, slice_get, ◌==◌, nat_lt, ◌||◌, if◌then◌else◌, Option, Some, None, Result, Ok, Err}
 use Rattle.model.specs.Limits.{max_day, max_depth, first_node_at, header_bytes}
 use Rattle.model.specs.Lists.{member}
 use Rattle.model.specs.Syntax as syntax
@@ -7,7 +7,10 @@ use Rattle.model.specs.Syntax.{Verb}
 use Rattle.model.specs.Kinds.{demands_in, kind_of, variables}
 use Rattle.model.specs.Requests.{free}
 use Rattle.model.specs.Bytes.{u32_at, Reading, got, refused}
-use Rattle.kinds.specs.Cells.{nothing}
+use Rattle.limits.specs.Kinds as kinds
+use Rattle.kinds.specs.declared.Cell.{Cell}
+use Rattle.kinds.specs.declared.Cell.TheVariants.{Settled}
+use Rattle.kinds.specs.Cells.{Cells, nothing}
 use Rattle.slices.specs.Steps.{number_of}
 use Rattle.slices.specs.declared.Refusal.{Refusal}
 use Rattle.slices.specs.declared.Reason.TheVariants as reasons
@@ -40,16 +43,21 @@ said (Err r) = Err (number_of r.reason, r.place)
 
 -- ---- the same in the code's order, by the two tables
 
--- the kind that a variable's cell stands for, if the variable is used: a cell up to 7 stands for none
-abbrev pub cell_kind : List ℕ → List ℕ → ℕ → ℕ
-cell_kind t used v = if get_or used v 0 == 1 then get_or t v 0 - 7 else 0
+-- the kind that a cell stands for, 0 where none is settled
+abbrev pub kind_in : Option Cell → ℕ
+kind_in (Some (Settled k)) = kinds.number_of k
+kind_in _ = 0
 
-abbrev pub cell_kinds : List ℕ → List ℕ → List ℕ
+-- and that of a variable, if it is used
+abbrev pub cell_kind : Cells → List ℕ → ℕ → ℕ
+cell_kind t used v = if get_or used v 0 == 1 then kind_in (slice_get t v) else 0
+
+abbrev pub cell_kinds : Cells → List ℕ → List ℕ
 cell_kinds t used = map (cell_kind t used) variables
 
 module _ (ks sg s : List ℕ) where
   -- safe, or not
-  abbrev pub accepted_in : Option Judged → List ℕ → Result Request Refusal
+  abbrev pub accepted_in : Option Judged → Cells → Result Request Refusal
   accepted_in (Some j) t = Ok (record { today = u32_at s header_bytes; kinds = cell_kinds t j.used; free = j.free })
   accepted_in None t = Err (record { reason = reasons.UnsafeRequest; place = first_node_at })
 

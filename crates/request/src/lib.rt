@@ -14,8 +14,12 @@ ghost use Rattle.request.specs.Requests.{said, answered, cell_kind, cell_kinds, 
 
 pub mod issuing;
 
-use kinds::Cells;
+use kinds::{Cell, Cells};
 use limits::{DEPTH, FIRST_NODE, HEADER, VARIABLES};
+use nodes::Reached;
+use nodes::shape::WHOLE;
+use nodes::tree::Tree;
+use phrases::Text;
 use phrases::marks::Marks;
 use slices::{Reason, Refusal};
 
@@ -23,24 +27,20 @@ use slices::{Reason, Refusal};
 #[derive(Clone, Copy)]
 pub struct Request {
     pub today: usize,
-    // the kind of each variable, 0 where it has no place in a fact
+    // the number of the kind of each variable, with which the bytes of constants are compared, 0 where it has no place in a fact
     pub kinds: [u8; VARIABLES],
     // the free variables
     pub free: Marks,
 }
-
-// What a kind's term is more than the kind.
-const NO_KIND: u8 = kinds::ANY_PRINCIPAL - 1;
 
 // The kind that a variable's cell stands for, if the variable is used.
 fn kind_in(t: Cells, used: Marks, v: usize) -> u8
     requires { v < 8 }
     ensures { result ≡ cell_kind t used v }
 {
-    if used[v] == 1 {
-        t[v].saturating_sub(NO_KIND)
-    } else {
-        0
+    match t[v] {
+        Cell::Settled(kind) if used[v] == 1 => kind.number(),
+        _ => 0,
     }
 }
 
@@ -57,18 +57,22 @@ fn kinds_in(t: Cells, used: Marks) -> [u8; VARIABLES]
 
 // Today, one node, nothing left over; "7 comes last".
 #[tactic(auto, unfolding(crate::specs::Requests::whole_in))]
-fn whole(ks: &[u8], sg: &[u8], s: &[u8]) -> Result<Request, Refusal>
-    requires { length s.now ≤ longest }
-    ensures { result ≡ whole_in ks.now sg.now s.now }
+fn whole(kinds: &[u8], tree: &Tree) -> Result<Request, Refusal>
+    ensures { result ≡ whole_in kinds.now tree.now.text.signatures.now tree.now.text.bytes.now }
 {
+    let s = tree.text.bytes;
     if s.len() < FIRST_NODE || limits::LAST_DAY < wire::u32_at(s, HEADER) {
         return Err(Reason::Form.at(HEADER));
     }
-    let node = nodes::node(ks, sg, s, DEPTH, FIRST_NODE, [0, 1, 2, 3, 4, 5, 6, 7])?;
+    let from = Reached {
+        at: FIRST_NODE,
+        cells: kinds::nothing(),
+    };
+    let node = tree.node(kinds, DEPTH, from)?;
     if node.at != s.len() {
         return Err(Reason::Form.at(node.at));
     }
-    let judged = safety::judge(sg, s).ok_or(Reason::UnsafeRequest.at(FIRST_NODE))?;
+    let judged = safety::judge(tree, WHOLE).ok_or(Reason::UnsafeRequest.at(FIRST_NODE))?;
     let kinds = kinds_in(node.cells, judged.used);
     let free = judged.free;
     Ok(Request {
@@ -85,7 +89,11 @@ pub fn read(ks: &[u8], sg: &[u8], s: &[u8]) -> Result<Request, Refusal>
     ensures short { IfOk result (λ _. length s.now ≤ longest) }
 {
     slices::lists::headed(s, limits::VERSION)?;
-    whole(ks, sg, s)
+    let text = Text {
+        signatures: sg,
+        bytes: s,
+    };
+    whole(ks, &Tree { text })
 }
 
 // "every issuer in the request's says nodes": 1 for each of the 255 possible constants that is one. A variable brings in all principals.
@@ -95,5 +103,9 @@ pub fn issuers(ks: &[u8], sg: &[u8], s: &[u8]) -> [u8; limits::CONSTANTS]
     ensures { (W : World) → Tables W.constants W.verbs ks.now sg.now → (p : ℕ) → p < 255
         → get_or result p 0 ≡ cond (member p (requests.issuers (node_at W.verbs s.now max_depth first_node_at) W)) 1 0 }
 {
-    issuing::node(ks, sg, s, DEPTH, FIRST_NODE, [0; limits::CONSTANTS])
+    let text = Text {
+        signatures: sg,
+        bytes: s,
+    };
+    issuing::issuers(ks, &Tree { text }, WHOLE)
 }

@@ -2,15 +2,15 @@
 use Rattle.std.specs.Prelude.{◌≡◌, ℕ, zero, suc, ◌+◌, ◌-◌, ◌≤◌, ◌<◌, List, length, get_or, Some, None, option_and_then}
 use Rattle.std.proofs.Common.{refl, ◌⊎◌, inl, inr}
 use borrow.Author.Tests.{eq-eqb, ne_eqb}
-use Rattle.model.specs.Syntax.{Expr, Nodes, vars_of, vars_in, vars_test}
+use Rattle.model.specs.Syntax.{Expr, vars_of, vars_in, vars_test}
 use Rattle.model.specs.Requests.{free}
 use Rattle.model.specs.Bytes.{byte_at}
-use Rattle.model.specs.Readings.{expr_at, constraint_at, nodes_by}
+use Rattle.model.specs.Readings.{expr_at, constraint_at}
 use Rattle.phrases.specs.Phrases.{levels_by, fact_by}
 use Rattle.phrases.specs.Marks.{none, marked, meet}
-use Rattle.nodes.specs.Tree.{shape_at, end_in, tree_in}
+use Rattle.nodes.specs.Tree.{shape_at, end_in, tree_in, nodes_in}
 use Rattle.safety.specs.Safety.{full, needed, dropped, known_says, known_in, known_all_in, known_any_in}
-use Rattle.nodes.specs.declared.tree.Shape.TheVariants.{Says, Test, All, Any, Not, Exists, Nothing}
+use Rattle.nodes.specs.declared.shape.Shape.TheVariants.{Says, Test, All, Any, Not, Exists, Nothing}
 use Rattle.nodes.proofs.TreeSteps.{nodes_done, nodes_next, nodes_none, nodes_more}
 use Rattle.nodes.proofs.TreeSteps.{tree_deep, tree_past, tree_says, tree_test, tree_all, tree_any, tree_not, tree_exists}
 use Rattle.nodes.proofs.TreeSteps.{tree_nothing}
@@ -37,9 +37,6 @@ module _ (sg s : List ℕ) where
   unfolding fact_by
   says_nested e p m = nested e (byte_at s p) (p + 1) m
 
-  abbrev nodes_in : ℕ → ℕ → ℕ → Nodes
-  nodes_in d n at = nodes_by (tree_in sg s d) (end_in sg s d) n at
-
   module _ (d at : ℕ) (m : List ℕ) where
     pub known_outside : (d ≡ 0) ⊎ ((d ≡ 0 → ⊥) × (length s ≤ at)) → known_in (tree_in sg s d at) m ≡ Some m
     unfolding known_in known_all_in
@@ -55,11 +52,11 @@ module _ (sg s : List ℕ) where
       unfolding known_in
       known_at_test g = rw (tree_test sg s d at (shape_at s at) n l refl g)
 
-      pub known_at_all : shape_at s at ≡ All → known_in (tree_in sg s d at) m ≡ known_all_in (nodes_in (d - 1) (byte_at s (at + 1)) (at + 2)) m
+      pub known_at_all : shape_at s at ≡ All → known_in (tree_in sg s d at) m ≡ known_all_in (nodes_in sg s (d - 1) (byte_at s (at + 1)) (at + 2)) m
       unfolding known_in
       known_at_all g = rw (tree_all sg s d at (shape_at s at) n l refl g)
 
-      pub known_at_any : shape_at s at ≡ Any → known_in (tree_in sg s d at) m ≡ known_any_in (nodes_in (d - 1) (byte_at s (at + 1)) (at + 2)) m
+      pub known_at_any : shape_at s at ≡ Any → known_in (tree_in sg s d at) m ≡ known_any_in (nodes_in sg s (d - 1) (byte_at s (at + 1)) (at + 2)) m
       unfolding known_in
       known_at_any g = rw (tree_any sg s d at (shape_at s at) n l refl g)
 
@@ -84,24 +81,24 @@ module _ (sg s : List ℕ) where
       known_nothing g = rw (tree_nothing sg s d at (shape_at s at) n l refl g)
 
   module _ (d n i at : ℕ) (m : List ℕ) where
-    pub all_done : n ≤ i → known_all_in (nodes_in d (n - i) at) m ≡ Some m
+    pub all_done : n ≤ i → known_all_in (nodes_in sg s d (n - i) at) m ≡ Some m
     unfolding known_all_in
     all_done h = rw (nodes_done (tree_in sg s d) (end_in sg s d) n i at h)
 
     pub all_next : i < n
-        → known_all_in (nodes_in d (n - i) at) m
-        ≡ option_and_then (known_all_in (nodes_in d (n - (i + 1)) (end_in sg s d at))) (known_in (tree_in sg s d at) m)
+        → known_all_in (nodes_in sg s d (n - i) at) m
+        ≡ option_and_then (known_all_in (nodes_in sg s d (n - (i + 1)) (end_in sg s d at))) (known_in (tree_in sg s d at) m)
     unfolding known_all_in
     all_next h = rw (nodes_next (tree_in sg s d) (end_in sg s d) n i at h)
 
   module _ (d n at : ℕ) (m : List ℕ) where
-    pub any_none : n ≡ 0 → known_any_in (nodes_in d n at) m ≡ Some full
+    pub any_none : n ≡ 0 → known_any_in (nodes_in sg s d n at) m ≡ Some full
     unfolding known_any_in
     any_none e = rw (nodes_none (tree_in sg s d) (end_in sg s d) n at e)
 
     pub any_more : (n ≡ 0 → ⊥)
-        → known_any_in (nodes_in d n at) m
-        ≡ option_and_then (λ u. option_and_then (λ w. Some (meet 8 u w)) (known_any_in (nodes_in d (n - 1) (end_in sg s d at)) m))
+        → known_any_in (nodes_in sg s d n at) m
+        ≡ option_and_then (λ u. option_and_then (λ w. Some (meet 8 u w)) (known_any_in (nodes_in sg s d (n - 1) (end_in sg s d at)) m))
         (known_in (tree_in sg s d at) m)
     unfolding known_any_in
     any_more x = rw (nodes_more (tree_in sg s d) (end_in sg s d) n at (end_in sg s d at) x refl)

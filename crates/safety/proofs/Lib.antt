@@ -1,3 +1,3 @@
-pub mod SafetySteps
+pub mod WalkLaws
 pub mod KnownSteps
 pub mod SafeLaws

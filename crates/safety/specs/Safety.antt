@@ -1,5 +1,5 @@
 -- Safety as the code finds it: a set of variables is eight marks, and None is known after a node that is not safe.
-use Rattle.std.specs.Prelude.{ℕ, List, [], ◌∷◌, get_or, set, ◌==◌, if◌then◌else◌, Option, Some, None, option_and_then}
+use Rattle.std.specs.Prelude.{ℕ, ◌-◌, List, [], ◌∷◌, get_or, set, ◌==◌, if◌then◌else◌, Option, Some, None, option_and_then}
 use Rattle.model.specs.Syntax.{Expr, Fact, flat, can_say, Node, Nodes, says, test, all_of, any_of, non, exists, end, more, vars_of, vars_in, vars_test}
 use Rattle.model.specs.Requests.{free}
 use Rattle.model.specs.Safety.{binders}
@@ -21,9 +21,13 @@ taken (v ∷ vs) m = if get_or m v 0 == 0 then taken vs (set m v 1) else None
 abbrev pub needed : List ℕ → List ℕ → List ℕ → Option (List ℕ)
 needed a m u = if within 8 a m then Some u else None
 
+-- the mark of v must be x, and becomes the other
+abbrev pub turned : ℕ → ℕ → List ℕ → Option (List ℕ)
+turned x v u = if get_or u v 0 == x then Some (set u v (1 - x)) else None
+
 -- variable v must be known, and is dropped
 abbrev pub dropped : ℕ → List ℕ → Option (List ℕ)
-dropped v u = if get_or u v 0 == 1 then Some (set u v 0) else None
+dropped = turned 1
 
 unfoldable pub known_says : Expr → Fact Expr → List ℕ → Option (List ℕ)
 known_says e (flat s v ps) m = Some (marked (vars_in (flat s v ps)) (marked (vars_of e) m))

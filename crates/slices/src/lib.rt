@@ -7,6 +7,9 @@ ghost use Rattle.wire.specs.Budget.{farthest, longest};
 ghost use Rattle.slices.specs.Steps.{number_of, step_of, count_right, ended_at};
 
 pub mod lists;
+mod sides;
+
+pub use sides::{Refused, Side};
 
 // Why a slice is refused, by the numbers of docs/FORMAT.md.
 #[derive(Clone, Copy, PartialEq, Eq)]

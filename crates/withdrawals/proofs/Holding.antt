@@ -7,7 +7,8 @@ use native.Mathlib.Numerals.{add-one}
 use native.Mathlib.Decide.{ℕ_discrete}
 use native.Mathlib.Omega.{arith}
 use lib.ListN.{length, length-set, get_or, set, take}
-use lib.Seq.{take-suc-set, get_or-set_same, get_or-set_other}
+use Rattle.std.proofs.Common.{get_or-take}
+use lib.Seq.{length-take-le, take-suc-set, get_or-set_same, get_or-set_other}
 use Rattle.wire.specs.Budget.{farthest}
 use Rattle.model.specs.Lists.{only, any}
 use Rattle.model.specs.Syntax.{World}
@@ -80,13 +81,18 @@ module _ (W : World) (s : List ℕ) (n : ℕ) where
           go j g (no q) = rw (get_or-set_other ats k j at 0 q) (H.aside j (omega arith))
 
     -- all are looked at
-    pub holding_end : n ≤ i → i ≤ n → Within ats k × (take k ats ≡ holding_at W s n 7)
+    pub holding_end : n ≤ i → i ≤ n → Within (take k ats) × (k ≤ 256) × (take k ats ≡ holding_at W s n 7)
     unfolding starts_at
     holding_end h m =
-        let e = done n i h in (
-          record { few = (let f = H.fewer in omega arith); fits = (let f = H.fewer in let g = H.long in omega arith); near = H.aside },
+        let e = done n i h in
+        let long = length-take-le k ats room in (
+          record { few = omega (arith, long, H.fewer); near = λ j g. let l : j < k = omega (arith, g, long) in rw (get_or-take k ats j 0 l) (H.aside j l) },
+          omega (arith, H.fewer),
           sym (append-nil (take k ats)) ∙ (rw e at H.kept),
         )
+      where
+        room : k ≤ length ats
+        room = omega (arith, H.fewer, H.long)
 
 -- ---- an entry removes exactly if its constraints hold and it is for the issuer and the serial
 

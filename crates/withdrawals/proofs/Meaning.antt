@@ -21,7 +21,10 @@ use Rattle.model.specs.Entries.{withdrawal_end, withdrawal_at, withdrawal_form, 
 use Rattle.model.proofs.EntryReader.{withdrawals_is}
 use Rattle.model.proofs.ReadFacts.{choose_yes}
 use Rattle.model.proofs.Tests.{T_true}
-use Rattle.kinds.specs.Cells.{Ask, same, feed, nothing}
+use Rattle.limits.specs.declared.Kind.TheVariants.{Principal}
+use Rattle.kinds.specs.declared.Term.{Term}
+use Rattle.kinds.specs.declared.Term.TheVariants.{Any}
+use Rattle.kinds.specs.Cells.{Cells, Ask, same, feed, nothing}
 use Rattle.kinds.specs.Asks.{asks_for}
 use Rattle.kinds.proofs.Model.{fits}
 use Rattle.phrases.specs.Tables.{Tables}
@@ -112,7 +115,8 @@ right_operators false false false d h = h
 module _ {cs : List Constant} {vs : List Verb} {ks sg : List ℕ} (X : Tables cs vs ks sg) (s : List ℕ) where
   asks_are : (at : ℕ) → entry_asks ks s at ≡ asks_for cs (withdrawal_demands (withdrawal_at s at))
   unfolding entry_asks withdrawal_at
-  asks_are at = ap₂ (λ (a : ℕ) (l : List Ask). same a 8 ∷ l) (phrase.place_is X s at) (phrase.tests_asks_law X s (byte_at s (at + 6)) (at + 7))
+  asks_are at = ap₂ (λ (a : Option Term) (l : List Ask). same a (Some (Any Principal)) ∷ l) (phrase.place_is X s at)
+      (phrase.tests_asks_law X s (byte_at s (at + 6)) (at + 7))
 
   fits_is : (at : ℕ) → withdrawal_form s at ≡ true → is_some (feed (entry_asks ks s at) nothing) ≡ fitting cs (withdrawal_demands (withdrawal_at s at))
   unfolding withdrawal_form withdrawal_at
@@ -125,7 +129,7 @@ module _ {cs : List Constant} {vs : List Verb} {ks sg : List ℕ} (X : Tables cs
       })
 
   -- the tests agree, the second where the first passes
-  judge : {A : Type 0} (a : A) (e at : ℕ) (f : Option (List ℕ)) (g h k : Bool) (form : Bool) → (form ≡ true → is_some f ≡ g) → h ≡ k
+  judge : {A : Type 0} (a : A) (e at : ℕ) (f : Option Cells) (g h k : Bool) (form : Bool) → (form ≡ true → is_some f ≡ g) → h ≡ k
       → cond (not form) (Refused 3 at) (cond (is_none f) (Refused 5 at) (cond h (Next e) (Refused 10 at)))
       ≡ step (choose form (choose g (choose k (got a e) (refused 10 at)) (refused 5 at)) (refused 3 at))
   unfolding choose step

@@ -1,8 +1,10 @@
 -- Withdrawals as the code reads them, by the table of the constants' kinds.
-use Rattle.std.specs.Prelude.{ℕ, zero, suc, ◌+◌, List, ◌∷◌, Bool, true, ◌&&◌, not, nat_lt, is_none, if◌then◌else◌}
+use Rattle.std.specs.Prelude.{ℕ, zero, suc, ◌+◌, List, ◌∷◌, Bool, true, ◌&&◌, not, nat_lt, is_none, if◌then◌else◌, Some}
 use Rattle.model.specs.Limits.{first_variable}
 use Rattle.model.specs.Bytes.{byte_at, u16_at}
 use Rattle.model.specs.Entries.{withdrawal_end, withdrawal_form}
+use Rattle.limits.specs.declared.Kind.TheVariants.{Principal}
+use Rattle.kinds.specs.declared.Term.TheVariants.{Any}
 use Rattle.kinds.specs.Cells.{Ask, same, feed, nothing}
 use Rattle.phrases.specs.Phrases.{place_at, tests_asks}
 use Rattle.slices.specs.Steps.{Step, Next, Refused}
@@ -25,7 +27,7 @@ closed_at s at = closed_expr s at && tests_closed (byte_at s (at + 6)) s (at + 7
 module _ (ks s : List ℕ) where
   -- what an entry asks of the kinds
   unfoldable pub entry_asks : ℕ → List Ask
-  entry_asks at = same (place_at ks s at) 8 ∷ tests_asks ks s (byte_at s (at + 6)) (at + 7)
+  entry_asks at = same (place_at ks s at) (Some (Any Principal)) ∷ tests_asks ks s (byte_at s (at + 6)) (at + 7)
 
   -- its form, then whether it fits, and then whether it has variables
   unfoldable pub entry_by : ℕ → Step

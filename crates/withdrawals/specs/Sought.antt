@@ -1,5 +1,6 @@
 -- How an assertion's entries are found: the entries whose constraints hold, by their offsets, in chains by issuer and serial.
-use Rattle.std.specs.Prelude.{List, [], ◌∷◌, map, Bool, not, ℕ, zero, suc, ◌+◌, ◌<◌, ◌≤◌, length, get_or}
+use Rattle.std.specs.Prelude.{List, Bool, not, ℕ, ◌+◌, ◌<◌, ◌≤◌, length, get_or}
+use Rattle.std.proofs.Props.{props}
 use Rattle.model.specs.Lists.{any, all, keep}
 use Rattle.model.specs.Syntax.{World}
 use Rattle.model.specs.Values.{passes}
@@ -9,7 +10,7 @@ use Rattle.model.specs.Entries.{withdrawal_at, withdrawal_end}
 use Rattle.wire.specs.Budget.{farthest}
 use Rattle.fact.specs.Packed.{spread}
 use Rattle.slices.specs.Items.{starts_at}
-use Rattle.chains.specs.Chains.{Chained}
+use Rattle.chains.specs.Offsets.{ChainedBy}
 use Rattle.withdrawals.specs.Left.{named}
 
 -- ---- entries by their offsets
@@ -30,11 +31,10 @@ named_at s issuer serial at = named (withdrawal_at s at) issuer serial
 abbrev pub unnamed_at : List ℕ → List ℕ → List ℕ → ℕ → ℕ → Bool
 unnamed_at s ats policy item issuer = not (any (named_at s (u16_at policy issuer) (u32_at policy (item + 2))) ats)
 
--- the first `count` offsets are there
-pub record Within (ats : List ℕ) (count : ℕ) : Type 0 where
-  pub few : count ≤ 256
-  pub fits : count ≤ length ats
-  pub near : (i : ℕ) → i < count → get_or ats i 0 + 2048 ≤ farthest
+-- offsets of entries
+pub record Within (ats : List ℕ) : Type 0 where
+  pub few : length ats ≤ 256
+  pub near : (i : ℕ) → i < length ats → get_or ats i 0 + 2048 ≤ farthest
 
 -- ---- their chains: entry i stands at offset i - 1 of `ats`
 
@@ -48,19 +48,11 @@ bucket_of issuer serial = spread buckets issuer serial 0 0
 abbrev pub bucket_at : List ℕ → ℕ → ℕ
 bucket_at s at = bucket_of (u16_at s at) (u32_at s (at + 2))
 
--- the first n offsets, the last one first
-unfoldable pub newest : List ℕ → ℕ → List ℕ
-newest ats zero = []
-newest ats (suc n) = get_or ats n 0 ∷ newest ats n
+-- all are in their chains
+pub record Linked (s ats links : List ℕ) : Type 0 where
+  pub within : Within ats
+  pub chained : ChainedBy (bucket_at s) links buckets ats (length ats)
 
--- the first `count` entries are in their chains
-pub record Linked (s ats links : List ℕ) (count : ℕ) : Type 0 where
-  pub within : Within ats count
-  pub chained : Chained links buckets (map (bucket_at s) (newest ats count))
-
--- ---- the assertions that they are sought for
-
-pub record Offered (items issuers : List ℕ) (count : ℕ) : Type 0 where
-  pub listed : count ≤ length items
-  pub issued : count ≤ length issuers
-  pub near : (i : ℕ) → i < count → (get_or items i 0 + 8 ≤ farthest) × (get_or issuers i 0 + 8 ≤ farthest)
+-- there is one proof of it at most, as of any fact that a type promises
+pub Linked-prop : (s ats links : List ℕ) → IsProp (Linked s ats links)
+Linked-prop s ats links = Prim.hlevel props

@@ -2,8 +2,9 @@
 // An entry has no length: issuer, serial, the count of its constraints, and these.
 #![tactic(auto)]
 
-ghost use Rattle.std.specs.Prelude.{◌≡◌, List, ℕ, ◌+◌, ◌*◌, ◌≤◌, length, IfOk};
+ghost use Rattle.std.specs.Prelude.{◌≡◌, List, ℕ, ◌+◌, ◌<◌, ◌≤◌, length, IfOk};
 ghost use Rattle.model.specs.Syntax.{Constant, Verb};
+ghost use Rattle.model.specs.Bytes.{byte_at};
 ghost use Rattle.model.specs.Entries.{withdrawal_end, withdrawal_form, read_withdrawals};
 ghost use Rattle.wire.specs.Budget.{farthest, longest};
 ghost use Rattle.kinds.specs.Cells.{feed, nothing};
@@ -12,11 +13,15 @@ ghost use Rattle.slices.specs.Steps.{step_of};
 ghost use Rattle.slices.specs.Lists.{count_of};
 ghost use Rattle.withdrawals.specs.Reading.{closed_expr, test_closed, tests_closed, closed_at, entry_asks, entry_by};
 
-use kinds::Cells;
-use limits::HEADER;
+use entry::Entry;
+use kinds::{Cells, Term};
+use limits::{HEADER, Kind};
+use phrases::Text;
 use slices::lists::{self, Reader};
 use slices::{Reason, Refusal};
 
+mod chained;
+mod entry;
 pub mod left;
 
 // Where parts of an entry stand, from its issuer on.
@@ -31,28 +36,45 @@ const FIRST: usize = HEADER + 2;
 
 // ---- form
 
-// Where the entry at `at` ends.
-#[tactic(auto, unfolding(model::specs::Entries::withdrawal_end))]
-fn entry_end(s: &[u8], at: usize) -> usize
-    requires { at + 2048 ≤ farthest }
-    ensures { (result ≡ withdrawal_end s.now at) × (result ≤ at + 2048) }
-{
-    at + TESTS + phrases::CONSTRAINT * wire::byte_or(s, at + COUNT)
-}
-
-// The entry at `at` is there, with at most four constraints, whose operators have a meaning.
-#[tactic(auto, unfolding(model::specs::Entries::withdrawal_form, model::specs::Bytes::choose))]
-fn entry_form(s: &[u8], at: usize) -> bool
-    requires { (at ≤ length s.now) × (length s.now ≤ longest) }
-    ensures { result ≡ withdrawal_form s.now at }
-{
-    if s.len() < at + TESTS {
-        return false;
+impl Entry<'_> {
+    // How many constraints it has.
+    fn count(&self) -> usize
+        ensures { (result ≡ byte_at self.now.bytes.now (self.now.at + 6)) × (result < 256) }
+    {
+        wire::byte_or(self.bytes, self.at + COUNT)
     }
-    let n = wire::byte_or(s, at + COUNT);
-    n <= limits::CONSTRAINTS
-        && entry_end(s, at) <= s.len()
-        && phrases::operators_form(s, n, at + TESTS)
+
+    // Where it ends.
+    #[tactic(auto, unfolding(model::specs::Entries::withdrawal_end))]
+    fn end(&self) -> usize
+        ensures { (result ≡ withdrawal_end self.now.bytes.now self.now.at) × (result ≤ self.now.at + 2048) }
+    {
+        self.at + TESTS + phrases::CONSTRAINT * self.count()
+    }
+
+    // Its bytes as a text: no verb stands in it, so there is no table to read it by.
+    fn text(&self) -> Text<'_>
+        ensures { result.bytes.now ≡ self.now.bytes.now }
+    {
+        Text {
+            signatures: &[],
+            bytes: self.bytes,
+        }
+    }
+
+    // It is there, with at most four constraints, whose operators have a meaning.
+    #[tactic(auto, unfolding(model::specs::Entries::withdrawal_form, model::specs::Bytes::choose))]
+    fn form(&self) -> bool
+        ensures { result ≡ withdrawal_form self.now.bytes.now self.now.at }
+    {
+        if self.bytes.len() < self.at + TESTS {
+            return false;
+        }
+        let n = self.count();
+        n <= limits::CONSTRAINTS
+            && self.end() <= self.bytes.len()
+            && self.text().operators_form(n, self.at + TESTS)
+    }
 }
 
 // ---- "an entry with a variable, as issuer too"
@@ -65,33 +87,35 @@ fn closed(s: &[u8], p: usize) -> bool
     wire::u16_or(s, p) < limits::FIRST_VARIABLE
 }
 
-// Neither side of the constraint at p is one.
-fn test_closed(s: &[u8], p: usize) -> bool
-    requires { p + 3 ≤ farthest }
-    ensures { result ≡ test_closed s.now p }
-{
-    closed(s, p + 1) && closed(s, p + 3)
-}
-
-// The same of n constraints from p on.
-#[tactic(auto, using(crate::proofs::Steps::closed_more, crate::proofs::Steps::closed_stop, crate::proofs::Steps::closed_none))]
-fn tests_closed(s: &[u8], n: usize, p: usize) -> bool
-    requires { p + 5 * n ≤ farthest }
-    ensures { result ≡ tests_closed n s.now p }
-{
-    for i in 0..n {
-        if !test_closed(s, p + phrases::CONSTRAINT * i) {
+impl Entry<'_> {
+    // None of its expressions is one.
+    #[tactic(auto, using(crate::proofs::Steps::closed_more, crate::proofs::Steps::closed_stop, crate::proofs::Steps::closed_none))]
+    fn closed(&self) -> bool
+        ensures { result ≡ closed_at self.now.bytes.now self.now.at }
+    {
+        let s = self.bytes;
+        if !closed(s, self.at) {
             return false;
         }
+        for i in 0..self.count() {
+            let p = self.at + TESTS + phrases::CONSTRAINT * i;
+            if !closed(s, p + 1) || !closed(s, p + 3) {
+                return false;
+            }
+        }
+        true
     }
-    true
-}
 
-fn entry_closed(s: &[u8], at: usize) -> bool
-    requires { at ≤ longest }
-    ensures { result ≡ closed_at s.now at }
-{
-    closed(s, at) && tests_closed(s, wire::byte_or(s, at + COUNT), at + TESTS)
+    // The kinds, if some choice of them fits: the issuer is a principal, and then the constraints.
+    #[tactic(auto, using(kinds::proofs::Laws::feed_more, kinds::proofs::Laws::asking), unfolding(crate::specs::Reading::entry_asks))]
+    fn fitted(&self, kinds: &[u8]) -> Option<Cells>
+        ensures { result ≡ feed (entry_asks kinds.now self.now.bytes.now self.now.at) nothing }
+    {
+        let issuer = self.text().place_at(kinds, self.at)?;
+        let cells = kinds::alike(kinds::nothing(), issuer, Term::Any(Kind::Principal))?;
+        self.text()
+            .tests_fit(kinds, self.count(), self.at + TESTS, cells)
+    }
 }
 
 // ---- the entries
@@ -102,42 +126,23 @@ struct Entries<'a> {
     kinds: &'a [u8],
 }
 
-impl Entries<'_> {
-    // The kinds, if some choice of them fits: the issuer is a principal, and then the constraints.
-    #[tactic(auto, using(kinds::proofs::Laws::feed_more), unfolding(crate::specs::Reading::entry_asks))]
-    fn fitted(&self, s: &[u8], at: usize) -> Option<Cells>
-        requires { at ≤ longest }
-        ensures { result ≡ feed (entry_asks self.now.kinds.now s.now at) nothing }
-    {
-        let open = [0, 1, 2, 3, 4, 5, 6, 7];
-        let place = phrases::place_at(self.kinds, s, at);
-        let cells = kinds::alike(open, place, kinds::ANY_PRINCIPAL)?;
-        phrases::tests_fit(
-            self.kinds,
-            s,
-            wire::byte_or(s, at + COUNT),
-            at + TESTS,
-            cells,
-        )
-    }
-}
-
 impl Reader for Entries<'_> {
     ghost step_at = { λ it s. entry_by it.kinds.now s };
 
     // "10 .. after 5 within its item".
     #[tactic(auto, using(crate::proofs::Steps::form_within), unfolding(crate::specs::Reading::entry_by))]
     fn item(&self, s: &[u8], at: usize) -> Result<usize, Refusal> {
-        if !entry_form(s, at) {
+        let entry = Entry { bytes: s, at };
+        if !entry.form() {
             return Err(Reason::Form.at(at));
         }
-        if self.fitted(s, at).is_none() {
+        if entry.fitted(self.kinds).is_none() {
             return Err(Reason::Unfit.at(at));
         }
-        if !entry_closed(s, at) {
+        if !entry.closed() {
             return Err(Reason::Variable.at(at));
         }
-        Ok(entry_end(s, at))
+        Ok(entry.end())
     }
 }
 

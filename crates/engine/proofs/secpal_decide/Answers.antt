@@ -1,11 +1,7 @@
 -- The numbers are those of the model's report, and both buffers are its.
-use borrow.Author.Rules.{rules}
 use Rattle.model.specs.Decision.{Lent, lent}
 use Rattle.engine.proofs.Reporting.{facts_fit, rounds_fit, numbers_are, facts_are, answers_are}
 use Rattle.engine.proofs.secpal_decide.Goals as goal
-
-pub decide-requires : goal.decide-requires
-decide-requires c = search rules
 
 pub in_numbers-requires : goal.in_numbers-requires
 in_numbers-requires c =
@@ -13,12 +9,6 @@ in_numbers-requires c =
     let d = c.decide in
     let l = given in
     (facts_fit l d.result _ _ d.ensures, rounds_fit l d.result _ _ d.ensures)
-
-pub shape_of-facts : goal.shape_of-facts
-shape_of-facts c = search rules
-
-pub shape_of-answers : goal.shape_of-answers
-shape_of-answers c = search rules
 
 pub returns : goal.returns
 returns c =

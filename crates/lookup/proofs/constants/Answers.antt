@@ -1,27 +1,27 @@
--- `lookup::constants` meets its contract: the first numbers of the reader's index are the model's offsets, and fit 32 bits.
-use mathlib.Core.Path.{ap, ◌∙◌}
-use mathlib.Core.List.{List}
-use Prim.Native.Nat.{ℕ}
-use native.Mathlib.Omega.{arith}
-use Rattle.model.specs.Policies.{read_policy}
-use Rattle.demands.specs.Lookups.{constant_offsets, laid}
-use Rattle.lookup.proofs.Accepted.{Laid, constants_laid}
+-- The first numbers of the index that was handed out are the model's offsets, and fit 32 bits.
+use Rattle.std.proofs.Common.{sym, ap, ◌∙◌, length, arith}
+use Rattle.demands.specs.Lookups.{laid}
+use Rattle.lookup.proofs.Laws.{nothing_laid}
+use Rattle.lookup.proofs.Accepted.{constants_laid, none_refused}
 use Rattle.lookup.proofs.constants.Goals as goal
 
+pub shared_ref_as_front-lay : goal.shared_ref_as_front-lay
+shared_ref_as_front-lay c = (constants_laid c.args.policy.now c.in-Ok.x c.in-Ok.ensures (λ i. omega (arith, c.type_inv.policy i))).few
+
 pub lay-requires : goal.lay-requires
-lay-requires c =
-    let known : Laid c.read-x.result.constant_at c.read-x.result.constants (constant_offsets (read_policy c.args.policy.now)) =
-    constants_laid c.args.policy.now c.read-x.result c.read-x.ensures (λ i. omega (arith, c.shared_slice_known-1.given i)) in
-    known.near
+lay-requires c = (constants_laid c.args.policy.now c.in-Ok.x c.in-Ok.ensures (λ i. omega (arith, c.type_inv.policy i))).near
 
 pub overflow_cast-result : goal.overflow_cast-result
 overflow_cast-result c =
-    let known : Laid c.read-x.result.constant_at c.read-x.result.constants (constant_offsets (read_policy c.args.policy.now)) =
-    constants_laid c.args.policy.now c.read-x.result c.read-x.ensures (λ i. omega (arith, c.shared_slice_known-1.given i)) in
-    let few = known.few in record { fits = omega (arith, few) }
+    let known = constants_laid c.args.policy.now c.in-Ok.x c.in-Ok.ensures (λ i. omega (arith, c.type_inv.policy i)) in
+    record { fits = omega (arith, known.few) }
 
-pub returns : goal.returns
-returns c =
-    let known : Laid c.read-x.result.constant_at c.read-x.result.constants (constant_offsets (read_policy c.args.policy.now)) =
-    constants_laid c.args.policy.now c.read-x.result c.read-x.ensures (λ i. omega (arith, c.shared_slice_known-1.given i)) in
-    record { count = known.counted; written = c.lay.ensures ∙ ap (λ (l : List ℕ). laid l c.args.offsets.now) known.front }
+pub returns-in-Ok : goal.returns-in-Ok
+returns-in-Ok c =
+    let known = constants_laid c.args.policy.now c.in-Ok.x c.in-Ok.ensures (λ i. omega (arith, c.type_inv.policy i)) in
+    record { count = known.counted; written = c.lay.ensures ∙ ap (λ l. laid l c.args.offsets.now) known.front }
+
+pub returns-in-Err : goal.returns-in-Err
+returns-in-Err c =
+    let none = none_refused c.args.policy.now _ _ c.in-Err.ensures in
+    record { count = sym (ap length none.0); written = rw none.0 (nothing_laid c.args.offsets.now) }

@@ -1,7 +1,7 @@
 -- For each outcome, what was written is its line: the laws of `Lines`.
 use mathlib.Core.Path.{◌≡◌}
 use lib.ListN.{length}
-use Rattle.outcome.proofs.Lines.{allow_is, deny_is, policy_is, request_is, withdrawals_is, hierarchy_is, facts_are, answers_are}
+use Rattle.outcome.proofs.Lines.{allow_is, deny_is, refused_line, facts_are, answers_are}
 use Rattle.outcome.proofs.line.Goals as goal
 
 pub returns-in-Allow : goal.returns-in-Allow
@@ -16,29 +16,10 @@ returns-in-Deny c =
     let w = deny_is c.args.o c.in-Deny.facts c.in-Deny.rounds c.in-Deny.is l c.word-end-in-Deny.ensures c.counted-in-Deny.ensures in
     record { upper_bound = w.0; out_after = w.1.0; out_unchanged = w.1.1 }
 
-pub returns-in-PolicyRefused : goal.returns-in-PolicyRefused
-returns-in-PolicyRefused c =
+pub returns-in-Refused : goal.returns-in-Refused
+returns-in-Refused c =
     let l : length c.args.out.now ≡ 96 = c.told-out in
-    let w = policy_is c.args.o c.in-PolicyRefused.number c.in-PolicyRefused.place c.in-PolicyRefused.is l c.refusal.ensures in
-    record { upper_bound = w.0; out_after = w.1.0; out_unchanged = w.1.1 }
-
-pub returns-in-RequestRefused : goal.returns-in-RequestRefused
-returns-in-RequestRefused c =
-    let l : length c.args.out.now ≡ 96 = c.told-out in
-    let w = request_is c.args.o c.in-RequestRefused.number c.in-RequestRefused.place c.in-RequestRefused.is l c.refusal-in-RequestRefused.ensures in
-    record { upper_bound = w.0; out_after = w.1.0; out_unchanged = w.1.1 }
-
-pub returns-in-WithdrawalsRefused : goal.returns-in-WithdrawalsRefused
-returns-in-WithdrawalsRefused c =
-    let l : length c.args.out.now ≡ 96 = c.told-out in
-    let w = withdrawals_is c.args.o c.in-WithdrawalsRefused.number c.in-WithdrawalsRefused.place c.in-WithdrawalsRefused.is l
-    c.refusal-in-WithdrawalsRefused.ensures in
-    record { upper_bound = w.0; out_after = w.1.0; out_unchanged = w.1.1 }
-
-pub returns-in-HierarchyRefused : goal.returns-in-HierarchyRefused
-returns-in-HierarchyRefused c =
-    let l : length c.args.out.now ≡ 96 = c.told-out in
-    let w = hierarchy_is c.args.o c.in-HierarchyRefused.number c.in-HierarchyRefused.place c.in-HierarchyRefused.is l c.refusal-in-HierarchyRefused.ensures in
+    let w = refused_line c.args.o c.in-Refused.side c.in-Refused.why c.in-Refused.is l (rw c.number.ensures at c.refusal.ensures) in
     record { upper_bound = w.0; out_after = w.1.0; out_unchanged = w.1.1 }
 
 pub returns-in-TooManyFacts : goal.returns-in-TooManyFacts

@@ -1,34 +1,91 @@
--- The reader by offsets does this step by step, and it is the one that is believed (`policy_is`).
-use Rattle.std.proofs.Common.{sym, ap, ◌∙◌}
-use Rattle.slices.specs.Steps.{number_of}
-use Rattle.slices.specs.declared.Refusal.{Refusal}
-use Rattle.policy.specs.Index.{refusal}
-use Rattle.model.specs.Policies.{computed_policy}
-use Rattle.model.proofs.PolicyReader.{policy_is}
-use Rattle.policy.proofs.PolicyFacts.{no_version, no_length, header_right}
+-- One list after the other; what each asks for, those before it give.
+use Rattle.std.proofs.Common.{◌≡◌, ℕ, List, ◌+◌, refl, ap, ◌∙◌, arith, rules}
+use Rattle.std.specs.Prelude.{Err}
+use Rattle.slices.specs.Steps.{Next, step}
+use Rattle.slices.proofs.ListFacts.{list_next}
+use Rattle.names.proofs.ItemFacts.{constant_reads, verb_reads}
+use Rattle.model.specs.Limits.{max_constants, max_verbs}
+use Rattle.model.specs.Policies.{list_at, constant_item, verb_item}
+use Rattle.policy.specs.Index.{said, kinds_at, signatures_at}
+use Rattle.policy.proofs.PolicyFacts.{Constants, Verbs, constants_within, constants_counted, verbs_within, verbs_counted, rest_counted}
+use Rattle.policy.proofs.PolicyFacts.{header_refused, constants_refused, verbs_refused, assertions_refused, all_taken}
 use Rattle.policy.proofs.read.Goals as goal
 
--- no version
-pub returns-then-not-version_there : goal.returns-then-not-version_there
-unfolding computed_policy
-returns-then-not-version_there c =
-    rw policy_is (no_version _ _ _ (sym c.version_there.ensures ∙ c.if-not-version_there.true)
-    (c.refused.ensures ∙ ap (λ (r : Refusal). refusal (number_of r.reason) r.place) c.at.ensures))
+-- what a list that was read gives
+ends : (s : List ℕ) (p : ℕ) → Next p ≡ step (list_at s 1 max_constants (constant_item s) 5) → Constants s p
+ends s p h = list_next _ _ _ _ _ _ (constant_reads s) _ _ _ h refl
 
--- a wrong length
-pub returns-then-not-length_right : goal.returns-then-not-length_right
-unfolding computed_policy
-returns-then-not-length_right c =
-    rw policy_is (no_length _ _ _ (sym c.version_there.ensures ∙ c.if-not-version_there.false)
-    (sym c.length_right.ensures.0 ∙ c.if-not-length_right.true) (c.refused-then-not-length_right.ensures
-    ∙ ap (λ (r : Refusal). refusal (number_of r.reason) r.place) c.at-then-not-length_right.ensures))
+verbs_end : (s : List ℕ) (p q : ℕ) → Next q ≡ step (list_at s 0 max_verbs (verb_item s) p) → Verbs s p q
+verbs_end s p q h = list_next _ _ _ _ _ _ (verb_reads s) _ _ _ h refl
 
-pub headed-requires : goal.headed-requires
-headed-requires c = c.length_right.ensures.1 c.if-not-length_right.false
+pub returns-in_err-headed : goal.returns-in_err-headed
+returns-in_err-headed c =
+    let out : c.from_residual.result ≡ Err c.in_err-headed.field-0.0 = search rules in
+    ap said out ∙ header_refused _ _ _ c.in_err-headed.ensures.step
 
--- both are right
+pub returns-in_err-second : goal.returns-in_err-second
+returns-in_err-second c =
+    let out : c.from_residual-in_err-second.result ≡ Err c.in_err-second.field-0.0 = search rules in
+    ap said out ∙ constants_refused _ _ c.in_ok-headed.ensures.step _ _ c.in_err-second.ensures
+
+pub verbs-requires : goal.verbs-requires
+verbs-requires c = omega (arith, constants_within _ _ (ends _ _ c.in_ok-second.ensures), c.in_ok-headed.ensures.short.1)
+
+pub returns-in_err-third : goal.returns-in_err-third
+returns-in_err-third c =
+    let out : c.from_residual-in_err-third.result ≡ Err c.in_err-third.field-0.0 = search rules in
+    ap said out ∙ verbs_refused _ _ c.in_ok-headed.ensures.step _ (ends _ _ c.in_ok-second.ensures) _ _ c.in_err-third.ensures
+
+pub kinds-kinds-requires : goal.kinds-kinds-requires
+kinds-kinds-requires c =
+    let few = (constants_counted _ _ (ends _ _ c.in_ok-second.ensures)).most in
+    (omega (arith, c.u16_or.ensures.0), omega (arith, c.u16_or.ensures.0))
+
+pub u16_or-requires-2 : goal.u16_or-requires-2
+u16_or-requires-2 c = omega (arith, constants_within _ _ (ends _ _ c.in_ok-second.ensures), c.in_ok-headed.ensures.short.1)
+
+pub overflow_add-second : goal.overflow_add-second
+overflow_add-second c = record { fits = omega (arith, constants_within _ _ (ends _ _ c.in_ok-second.ensures), c.in_ok-headed.ensures.short.1) }
+
+pub signatures-signatures-requires : goal.signatures-signatures-requires
+signatures-signatures-requires c =
+    let few = (verbs_counted _ _ (ends _ _ c.in_ok-second.ensures) _ (verbs_end _ _ _ c.in_ok-third.ensures)).most in
+    let near = constants_within _ _ (ends _ _ c.in_ok-second.ensures) in
+    (omega (arith, c.u16_or-2.ensures.0), omega (arith, c.u16_or-2.ensures.0, near, c.in_ok-headed.ensures.short.1))
+
+pub assertions-requires : goal.assertions-requires
+assertions-requires c =
+    (verbs_within _ _ (ends _ _ c.in_ok-second.ensures) _ (verbs_end _ _ _ c.in_ok-third.ensures), c.in_ok-headed.ensures.short.1)
+
+pub returns-in_err-assertions : goal.returns-in_err-assertions
+returns-in_err-assertions c =
+    let s = c.args.policy.now in
+    let ks = c.kinds-kinds.ensures ∙ ap (λ (n : ℕ). kinds_at s n 7) c.u16_or.ensures.0 in
+    let sg = c.signatures-signatures.ensures ∙ ap (λ (n : ℕ). signatures_at s n (c.in_ok-second.second + 2)) c.u16_or-2.ensures.0 in
+    let out : c.from_residual-in_err-assertions.result ≡ Err c.in_err-assertions.field-0.0 = search rules in
+    ap said out
+    ∙ assertions_refused s _ c.in_ok-headed.ensures.step _ (ends _ _ c.in_ok-second.ensures) _ (verbs_end _ _ _ c.in_ok-third.ensures) _ _ ks sg _ _
+    c.in_err-assertions.ensures
+
+pub accepted-requires : goal.accepted-requires
+accepted-requires c =
+    let s = c.args.policy.now in
+    let K = ends _ _ c.in_ok-second.ensures in
+    let V = verbs_end _ _ _ c.in_ok-third.ensures in
+    let ks = c.kinds-kinds.ensures ∙ ap (λ (n : ℕ). kinds_at s n 7) c.u16_or.ensures.0 in
+    let sg = c.signatures-signatures.ensures ∙ ap (λ (n : ℕ). signatures_at s n (c.in_ok-second.second + 2)) c.u16_or-2.ensures.0 in (
+      constants_within _ _ K,
+      verbs_within _ _ K _ V,
+      c.in_ok-headed.ensures.short.1,
+      (constants_counted _ _ K).most,
+      (verbs_counted _ _ K _ V).most,
+      rest_counted s _ K _ V _ _ ks sg _ c.in_ok-assertions.ensures,
+    )
+
 pub returns : goal.returns
-unfolding computed_policy
 returns c =
-    rw policy_is (header_right _ _ _ (sym c.version_there.ensures ∙ c.if-not-version_there.false)
-    (sym c.length_right.ensures.0 ∙ c.if-not-length_right.false) c.headed.ensures)
+    let s = c.args.policy.now in
+    let ks = c.kinds-kinds.ensures ∙ ap (λ (n : ℕ). kinds_at s n 7) c.u16_or.ensures.0 in
+    let sg = c.signatures-signatures.ensures ∙ ap (λ (n : ℕ). signatures_at s n (c.in_ok-second.second + 2)) c.u16_or-2.ensures.0 in
+    all_taken s _ c.in_ok-headed.ensures.step _ (ends _ _ c.in_ok-second.ensures) _ (verbs_end _ _ _ c.in_ok-third.ensures) _ _ ks sg _
+    c.in_ok-assertions.ensures _ c.accepted.ensures

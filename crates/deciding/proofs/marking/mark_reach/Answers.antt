@@ -2,7 +2,6 @@
 use mathlib.Core.Path.{refl, ◌∙◌}
 use mathlib.Core.List.{[]}
 use lib.ListN.{length}
-use borrow.Author.Rules.{rules}
 use Rattle.model.specs.Withdrawals.{left_in}
 use Rattle.model.specs.Policies.{policy_of}
 use Rattle.model.specs.Deciding.{read}
@@ -10,34 +9,19 @@ use Rattle.demands.specs.Lookups.{reach_of}
 use Rattle.deciding.proofs.MarkLaws.{bytes_marks}
 use Rattle.deciding.proofs.marking.mark_reach.Goals as goal
 
-pub slice_bounds-left-end : goal.slice_bounds-left-end
-slice_bounds-left-end c = let issuers = c.well_formed.1.0.1.1.1.1.1.1.1.1 in search (rules, issuers)
-
 pub left-n-requires : goal.left-n-requires
 left-n-requires c = let p = c.requires in (refl, (c.args.request.now, p.0, p.1, p.2, p.3, p.4))
-
-pub slice_bounds-reached-end : goal.slice_bounds-reached-end
-slice_bounds-reached-end c = search rules
 
 pub reached-reach-requires : goal.reached-reach-requires
 reached-reach-requires c =
     let p = c.requires in
-    let leaves = c.left-n.ensures c.args.request.now p.0 p.1 p.2 [] p.3 p.4 in
+    let leaves = c.left-n.ensures.leaves c.args.request.now p.0 p.1 p.2 [] p.3 p.4 in
     ((p.0, p.1, left_in (read (policy_of p.0) p.1 p.2 []), p.3.accepts, leaves), p.3.short)
-
-pub slice_bounds-mark-end : goal.slice_bounds-mark-end
-slice_bounds-mark-end c = search rules
-
-pub mark-requires : goal.mark-requires
-mark-requires c = search rules
-
-pub shape_of-marks : goal.shape_of-marks
-shape_of-marks c = search rules
 
 pub returns : goal.returns
 returns c =
     λ A q ws H k d.
     let R = read (policy_of A) q ws H in
-    let leaves = c.left-n.ensures c.args.request.now A q ws H k d in
+    let leaves = c.left-n.ensures.leaves c.args.request.now A q ws H k d in
     let marks = c.reached-reach.ensures A q H (left_in R) k.accepts leaves in
     c.mark.ensures ∙ bytes_marks (reach_of R) c.reached-reach.result marks (length c.args.marks.now) 0

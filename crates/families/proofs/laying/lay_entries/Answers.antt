@@ -1,5 +1,5 @@
 use Rattle.std.proofs.Common.{◌≡◌, arith}
-use Rattle.families.proofs.Entries.{none_laid, all_laid}
+use Rattle.families.proofs.Entered.{none_laid, all_laid}
 use Rattle.families.proofs.laying.lay_entries.Goals as goal
 
 -- at first none is

@@ -1,11 +1,12 @@
-use Rattle.std.proofs.Common.{ℕ, [], ◌+◌, ◌≤◌, Err, sym, ap, ◌∙◌, arith}
+use Rattle.std.proofs.Common.{ℕ, [], ◌+◌, ◌≤◌, Err, refl, sym, ap, ◌∙◌, arith}
 use lib.ListN.{length-replicate}
 use Rattle.model.specs.Readings.{item_end}
 use Rattle.slices.specs.Steps.{step_of}
 use Rattle.slices.specs.declared.Refusal.{Refusal}
 use Rattle.slices.proofs.ListFacts.{counted}
 use Rattle.names.specs.Names.{names_by, name_list}
-use Rattle.names.proofs.Seeking.{fresh}
+use Rattle.labels.specs.Hash.{buckets}
+use Rattle.chains.proofs.Offsets.{none_chained}
 use Rattle.names.proofs.named.list.Goals as goal
 
 pub returns-then-not-count_right : goal.returns-then-not-count_right
@@ -23,7 +24,7 @@ names-requires g c =
     let n = c.u16_at.result in
     let most : n ≤ g.row.MOST = omega (arith, c.u16_at.ensures.0, there.most) in
     let r = c.requires in (
-      fresh (item_end c.args.s.now) (g.N.Named.bucket_at c.args.s.now) (c.args.p + 2) g.row.MOST g.row.LINKS (omega (arith, r.2)),
+      none_chained (g.N.Named.bucket_at c.args.s.now) buckets _ _ g.row.LINKS refl (omega (arith, r.2)),
       omega (arith, most, length-replicate {A = ℕ} g.row.MOST 0),
       omega (arith, most, r.2, length-replicate {A = ℕ} g.row.LINKS 0),
       omega (arith, most, r.1),

@@ -4,9 +4,8 @@ use Rattle.model.specs.Readings.{item_end, ends_by}
 use Rattle.slices.specs.Items.{starts_at}
 use Rattle.slices.specs.Steps.{Refused, number_of, step_of}
 use Rattle.labels.specs.Hash.{buckets}
-use Rattle.names.specs.Names.{names_by}
-use Rattle.names.specs.Seeking.{Listed}
-use Rattle.names.proofs.Seeking.{listed_next, linked_long}
+use Rattle.names.specs.Names.{name_by, names_by}
+use Rattle.names.proofs.Seeking.{Going, going_start, going_starts, going_listed, going_next, linked_long}
 use Rattle.names.proofs.NameFacts.{names_more, names_stop, names_none, name_taken, taken_ends}
 use Rattle.names.proofs.named.names.Goals as goal
 
@@ -17,39 +16,44 @@ loop-k-init g c =
     let a = c.args in
     let e : a.n - 0 ≡ a.n = omega arith in
     let names = names_by (g.N.Named.form_at a.s.now) (g.N.Named.alike_at a.s.now) (item_end a.s.now) in
-    (r.0, refl, r.1, r.2, ap (λ (n : ℕ). names n [] a.from) e)
+    (going_start _ _ a.from _ _ r.0, refl, r.1, r.2, ap (λ (n : ℕ). names n [] a.from) e)
 
+pub name-requires : goal.name-requires
+name-requires g c = let i = c.loop-k.invariant in going_listed _ _ _ _ _ _ i.0 _ i.1
+
+-- the names before stand where they are listed
 pub returns-in_err-end : goal.returns-in_err-end
 returns-in_err-end g c =
     let i = c.loop-k.invariant in
+    let a = c.args in
     let e = c.in_err-end.field-0.0 in
     let told : step_of c.from_residual.result ≡ Refused (number_of e.reason) e.place = search rules in
-    told
-    ∙ sym (names_stop _ _ _ c.args.n c.loop-k.k c.args.from c.loop-k.at _ _ c.loop-k-test.true (sym (c.name.ensures _ _ i.0) ∙ ap step_of c.in_err-end.was))
-    ∙ i.4
+    let name = name_by (g.N.Named.form_at a.s.now) (g.N.Named.alike_at a.s.now) (item_end a.s.now) in
+    let stopped = ap (λ (l : List ℕ). name l c.loop-k.at) (sym (going_starts _ _ _ _ _ _ i.0)) ∙ sym c.name.ensures ∙ ap step_of c.in_err-end.was in
+    told ∙ sym (names_stop _ _ _ a.n c.loop-k.k a.from c.loop-k.at _ _ c.loop-k-test.true stopped) ∙ i.4
 
 pub bucket-requires : goal.bucket-requires
-bucket-requires g c =
-    let i = c.loop-k.invariant in
-    (name_taken _ _ _ _ _ _ (sym (c.name.ensures _ _ i.0) ∙ ap step_of c.in_ok-end.was)).0
+bucket-requires g c = (name_taken _ _ _ _ _ _ (sym c.name.ensures ∙ ap step_of c.in_ok-end.was)).0
 
 pub loop-k-preserved : goal.loop-k-preserved
 loop-k-preserved g c =
     let i = c.loop-k.invariant in
+    let a = c.args in
     let k = c.loop-k.k in
-    let next = item_end c.args.s.now in
-    let bucket = g.N.Named.bucket_at c.args.s.now in
+    let next = item_end a.s.now in
+    let bucket = g.N.Named.bucket_at a.s.now in
     let ats = slice_set c.loop-k.ats k c.loop-k.at in
-    let took = sym (c.name.ensures _ _ i.0) ∙ ap step_of c.in_ok-end.was in
-    let ends = taken_ends next k c.args.from c.loop-k.at c.in_ok-end.end i.1 (name_taken _ _ _ _ _ _ took).1 in
+    let name = name_by (g.N.Named.form_at a.s.now) (g.N.Named.alike_at a.s.now) next in
+    let took = ap (λ (l : List ℕ). name l c.loop-k.at) (sym (going_starts _ _ _ _ _ _ i.0)) ∙ sym c.name.ensures ∙ ap step_of c.in_ok-end.was in
+    let ends = taken_ends next k a.from c.loop-k.at c.in_ok-end.end i.1 (name_taken _ _ _ _ _ _ took).1 in
     let b = c.bucket.ensures in
-    let listed = listed_next _ _ _ _ _ _ i.0 c.loop-k.at c.bucket.result i.1 b.bucket b.below (omega (arith, i.2)) (omega (arith, i.3)) in
+    let listed = going_next _ _ _ _ _ _ i.0 c.loop-k.at c.bucket.result i.1 b.bucket b.below (omega (arith, i.2)) (omega (arith, i.3)) in
     let long = linked_long c.add.new.x c.loop-k.links buckets k c.bucket.result c.add.ensures in (
-      subst (λ (t : List ℕ). Listed next bucket c.args.from (k + 1) ats t) (sym c.add.ensures) listed,
+      subst (λ (t : List ℕ). Going next bucket a.from (k + 1) ats t) (sym c.add.ensures) listed,
       ends,
       simp length-set i.2,
       omega (arith, long, i.3),
-      sym (names_more _ _ _ c.args.n k c.args.from c.loop-k.at c.in_ok-end.end c.loop-k-test.true i.1 took) ∙ i.4,
+      sym (names_more _ _ _ a.n k a.from c.loop-k.at c.in_ok-end.end c.loop-k-test.true i.1 took) ∙ i.4,
     )
 
 pub returns : goal.returns

@@ -1,14 +1,8 @@
 use Rattle.std.proofs.Common.{◌∙◌, arith}
 use borrow.Author.Tests.{ne_eqb}
 use Rattle.labels.proofs.Laws.{parts_same, parts_differ}
-use Rattle.names.proofs.FormFacts.{verb_inside, verb_label, verbs_alike}
+use Rattle.names.proofs.FormFacts.{verb_label, verbs_alike}
 use Rattle.names.proofs.verbs.VerbNamed.alike.Goals as goal
-
-pub overflow_add-q : goal.overflow_add-q
-overflow_add-q c = let h = c.requires.1 in omega (arith, verb_inside _ _ h, verb_label _ _ h)
-
-pub byte-a-requires : goal.byte-a-requires
-byte-a-requires c = let h = c.requires.1 in omega (arith, verb_inside _ _ h, verb_label _ _ h)
 
 pub returns-then-n-b : goal.returns-then-n-b
 returns-then-n-b c =

@@ -1,0 +1,48 @@
+// A family under way. It stands alone, since a struct with a ghost field takes in all that its file cites.
+ghost use Rattle.std.specs.Prelude.{◌≡◌, [], ◌∷◌, ◌<◌, take};
+ghost use Rattle.rules.specs.Families.{joined};
+ghost use Rattle.families.specs.Kin.{bytes, Holds, Holds-prop};
+
+use super::{BYTES, MOST};
+
+// The members, the first `count` of the array, the nearest first, and a mark for each of them.
+#[derive(Clone, Copy)]
+pub struct Family {
+    pub members: [u8; BYTES],
+    pub marks: [u8; BYTES],
+    pub count: usize,
+    ghost held: { Holds members marks count (take count members) } by { Holds-prop members marks count (take count members) },
+}
+
+impl Family {
+    ghost use Rattle.families.specs.Members.{members_of};
+
+    // c alone.
+    pub fn of(c: u16) -> Family
+        requires { c < bytes }
+        ensures { members_of result ≡ c ∷ [] }
+    {
+        let mut members = [0u8; BYTES];
+        let mut marks = [0u8; BYTES];
+        members[0] = c as u8;
+        marks[c as usize] = 1;
+        Family {
+            members,
+            marks,
+            count: 1,
+        }
+    }
+
+    // One more at the end, unless it is there.
+    pub fn join(&mut self, d: u16)
+        requires { d < bytes }
+        ensures { members_of self.new ≡ joined (members_of self.old) d }
+    {
+        let at = d as usize;
+        if self.marks[at] == 0 && self.count < MOST {
+            self.members[self.count] = d as u8;
+            self.marks[at] = 1;
+            self.count += 1;
+        }
+    }
+}

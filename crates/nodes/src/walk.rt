@@ -1,0 +1,90 @@
+// One walk over a request's tree, whatever it does at a node.
+ghost use Rattle.std.specs.Prelude.{◌≡◌, ◌+◌, ℕ, ◌≤◌};
+ghost use Rattle.model.specs.Readings.{expr_at, constraint_at};
+ghost use Rattle.phrases.specs.Phrases.{fact_by};
+ghost use Rattle.wire.specs.Budget.{longest};
+ghost use Rattle.nodes.specs.Tree.{tree_in, nodes_in};
+ghost use Rattle.nodes.specs.Walk.{Steps, walked, all_walked};
+
+// It calls itself, as in `shape`: the tree is in the bytes, and a level is left at each call.
+use super::shape::{Place, Shape};
+use super::tree::Tree;
+use phrases::Text;
+
+// What a walk does to its state at a node.
+pub trait Visit {
+    type State: Copy;
+
+    ghost steps: { Self → Steps Self.State };
+
+    // At the says node at `at`.
+    fn says(&self, text: Text, at: usize, state: Self::State) -> Self::State
+        requires { at ≤ longest }
+        ensures { result ≡ (steps self.now).at_says (expr_at text.entry.bytes.now (at + 1))
+            (fact_by text.entry.signatures.now text.entry.bytes.now (at + 3)) state };
+
+    // At the constraint node at `at`.
+    fn test(&self, text: Text, at: usize, state: Self::State) -> Self::State
+        requires { at ≤ longest }
+        ensures { result ≡ (steps self.now).at_test (constraint_at text.entry.bytes.now (at + 1)) state };
+
+    // Before the node of an exists of variable v.
+    fn enter(&self, v: usize, state: Self::State) -> Self::State
+        ensures { result ≡ (steps self.now).enter v state };
+
+    // And after it, where `before` was the state.
+    fn leave(&self, v: usize, before: Self::State, state: Self::State) -> Self::State
+        ensures { result ≡ (steps self.now).leave v before state };
+}
+
+impl Tree<'_> {
+    // The node at a place.
+    #[cycle(walk_walk_parts)]
+    #[tactic(auto, using(crate::proofs::WalkSteps::walk_steps))]
+    pub fn walk<V: Visit>(&self, visit: &V, place: Place, state: V::State) -> V::State
+        ensures { result ≡ walked (V.steps visit.now)
+            (tree_in self.now.text.signatures.now self.now.text.bytes.now place.depth place.at) state }
+    {
+        let Place { depth, at } = place;
+        if depth == 0 || self.text.bytes.len() <= at {
+            return state;
+        }
+        let depth = depth - 1;
+        match self.shape_at(at) {
+            Shape::Says => visit.says(self.text, at, state),
+            Shape::Test => visit.test(self.text, at, state),
+            Shape::All | Shape::Any => self.walk_parts(
+                visit,
+                wire::byte_or(self.text.bytes, at + 1),
+                Place { depth, at: at + 2 },
+                state,
+            ),
+            Shape::Not => self.walk(visit, Place { depth, at: at + 1 }, state),
+            Shape::Exists => {
+                let v = wire::byte_or(self.text.bytes, at + 1);
+                let inside = self.walk(visit, Place { depth, at: at + 2 }, visit.enter(v, state));
+                visit.leave(v, state, inside)
+            }
+            Shape::Nothing => state,
+        }
+    }
+
+    // And n nodes, the first of which stands at the place.
+    #[cycle(walk_walk_parts)]
+    #[tactic(auto, using(crate::proofs::WalkSteps::walk_steps))]
+    fn walk_parts<V: Visit>(&self, visit: &V, n: usize, place: Place, state: V::State) -> V::State
+        ensures { result ≡ all_walked (V.steps visit.now)
+            (nodes_in self.now.text.signatures.now self.now.text.bytes.now place.depth n place.at) state }
+    {
+        let mut at = place.at;
+        let mut u = state;
+        for _ in 0..n {
+            let part = Place { at, ..place };
+            // a local of its own: the check covers no array that is laid where an argument was
+            let more = self.walk(visit, part, u);
+            u = more;
+            at = self.node_end(part);
+        }
+        u
+    }
+}

@@ -1,7 +1,0 @@
-use Rattle.std.proofs.Common.{◌≡◌, ◌+◌, ◌-◌, ◌*◌}
-use Rattle.kinds.specs.Cells.{feed}
-use Rattle.phrases.specs.Phrases.{levels_asks}
-use Rattle.phrases.proofs.levels_fit.Given as goal
-
-abbrev pub invariant-loop-i : goal.invariant-loop-i
-invariant-loop-i l = feed (levels_asks l.ks l.sg l.s (l.m - l.i) (l.p + 3 * l.i)) l.u ≡ feed (levels_asks l.ks l.sg l.s l.m l.p) l.fn.t
