@@ -38,6 +38,11 @@ module _ (vs : List Verb) (s : List ℕ) where
 
 -- ---- form, in an item that ends at e
 
+-- what the code's readers of it say: that it is right, and then it ends there
+abbrev pub ends : {A : Type 0} → ℕ → Result A Fault → Result ℕ Fault
+ends e (Ok x) = Ok e
+ends e (Err f) = Err f
+
 -- constraints, whose count stands at p; they end the item
 unfoldable pub tests_form_by : List ℕ → ℕ → ℕ → Result ℕ Fault
 tests_form_by s e p =

@@ -7,8 +7,8 @@ ghost use Rattle.assertions.specs.Assertions.{tests_by};
 
 use phrases::Text;
 
-// Where it begins, with the two bytes of its length, and where it ends, in the text; and where the counts of its body facts and of its constraints stand, which
-// are sought once.
+// Where it begins, with the two bytes of its length, and where it ends, in the text; and where the counts of its body facts and of its constraints stand, for
+// kinds and safety: the reader of its form finds both by itself, as it does not know yet that they are there.
 #[derive(Clone, Copy)]
 pub struct Item<'a> {
     pub text: Text<'a>,

@@ -26,16 +26,16 @@ fn mark(reach: &[u8], marks: &mut [u8])
 // All slices are accepted.
 fn mark_reach(
     policy: &[u8],
-    x: Index,
+    x: &Index,
     request: &[u8],
     h: Handed,
     withdrawals: &[u8],
     marks: &mut [u8],
 )
-    requires { (A : Accepted) × (q : syntax.Request) × (ws : List syntax.Withdrawal) × Takes policy.now request.now x h.request A q
+    requires { (A : Accepted) × (q : syntax.Request) × (ws : List syntax.Withdrawal) × Takes policy.now request.now x.now h.request A q
         × Withdraws withdrawals.now h.withdrawals A ws }
     ensures { (A : Accepted) (q : syntax.Request) (ws : List syntax.Withdrawal) (H : List syntax.Link)
-        → Takes policy.now request.now x h.request A q → Withdraws withdrawals.now h.withdrawals A ws
+        → Takes policy.now request.now x.now h.request A q → Withdraws withdrawals.now h.withdrawals A ws
         → marks.new ≡ marks_from (reach_of (read (policy_of A) q ws H)) (length marks.old) 0 }
 {
     let mut left = x.issuer_at;
@@ -47,22 +47,20 @@ fn mark_reach(
 // The policy is accepted.
 pub fn accepted(
     policy: &[u8],
-    x: Index,
+    x: &Index,
     request: &[u8],
     withdrawals: &[u8],
     hierarchy: &[u8],
     marks: &mut [u8],
 ) -> Report
-    requires { HandsOut policy.now x }
+    requires { HandsOut policy.now x.now }
     ensures numbers { result
         ≡ refusal_of (whose_words (slices policy.now request.now withdrawals.now hierarchy.now)
         marks.old) }
     ensures marks { marks.new
         ≡ (whose_words (slices policy.now request.now withdrawals.now hierarchy.now) marks.old).marks }
 {
-    let kinds = x.kinds;
-    let signatures = x.signatures;
-    match inputs::read(&kinds, &signatures, request, withdrawals, hierarchy) {
+    match inputs::read(&x.kinds, &x.signatures, request, withdrawals, hierarchy) {
         Ok(h) => {
             mark_reach(policy, x, request, h, withdrawals, marks);
             Report::default()

@@ -2,7 +2,7 @@
 ghost use Rattle.std.specs.Prelude.{◌≡◌, true, [], ◌+◌, ◌*◌, ◌<◌, get_or, drop};
 ghost use Rattle.chains.specs.Chains.{walk};
 ghost use Rattle.families.specs.Laid.{buckets, bucket_with, Entered, Entered-prop};
-ghost use Rattle.families.specs.Kin.{bytes, is_in, children_in};
+ghost use Rattle.families.specs.Kin.{is_in, children_in};
 ghost use Rattle.families.specs.Sets.{owner_in};
 
 use super::{BUCKETS, CHILD, ENTRY, PARENT, bucket};
@@ -28,11 +28,11 @@ impl Entries<'_> {
     }
 
     // The child of entry k.
-    pub fn child(&self, k: usize) -> u16
+    pub fn child(&self, k: usize) -> u8
         requires { k < self.now.count }
-        ensures { (result ≡ get_or self.now.families.now (3 * k + 2) 0) × (result < bytes) }
+        ensures { result ≡ get_or self.now.families.now (3 * k + 2) 0 }
     {
-        self.families[ENTRY * k + CHILD]
+        self.families[ENTRY * k + CHILD] as u8
     }
 
     // The entries that can be for a verb and position and have a parent, the newest first: those of one bucket, whose numbers begin at 1.

@@ -1,11 +1,12 @@
 // A family under way. It stands alone, since a struct with a ghost field takes in all that its file cites.
-ghost use Rattle.std.specs.Prelude.{◌≡◌, [], ◌∷◌, ◌<◌, take};
+ghost use Rattle.std.specs.Prelude.{◌≡◌, [], ◌∷◌, take};
 ghost use Rattle.rules.specs.Families.{joined};
-ghost use Rattle.families.specs.Kin.{bytes, Holds, Holds-prop};
+ghost use Rattle.families.specs.Kin.{Holds, Holds-prop};
 
 use super::{BYTES, MOST};
 
-// The members, the first `count` of the array, the nearest first, and a mark for each of them.
+// The members, the first `count` of the array, the nearest first, and a mark for each of them. Marks are 0 and 1: a set is packed from them as bits, and so the
+// definitions have them (`Sets.bit_of`).
 #[derive(Clone, Copy)]
 pub struct Family {
     pub members: [u8; BYTES],
@@ -18,13 +19,12 @@ impl Family {
     ghost use Rattle.families.specs.Members.{members_of};
 
     // c alone.
-    pub fn of(c: u16) -> Family
-        requires { c < bytes }
+    pub fn of(c: u8) -> Family
         ensures { members_of result ≡ c ∷ [] }
     {
         let mut members = [0u8; BYTES];
         let mut marks = [0u8; BYTES];
-        members[0] = c as u8;
+        members[0] = c;
         marks[c as usize] = 1;
         Family {
             members,
@@ -34,13 +34,12 @@ impl Family {
     }
 
     // One more at the end, unless it is there.
-    pub fn join(&mut self, d: u16)
-        requires { d < bytes }
+    pub fn join(&mut self, d: u8)
         ensures { members_of self.new ≡ joined (members_of self.old) d }
     {
         let at = d as usize;
         if self.marks[at] == 0 && self.count < MOST {
-            self.members[self.count] = d as u8;
+            self.members[self.count] = d;
             self.marks[at] = 1;
             self.count += 1;
         }

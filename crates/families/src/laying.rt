@@ -1,4 +1,5 @@
 // The entries of a hierarchy and their chains, laid out.
+// That there is room is about the lent slice, which is written into, so each function asks it.
 ghost use Rattle.std.specs.Prelude.{◌≡◌, ℕ, ◌+◌, ◌*◌, ◌≤◌, ◌<◌, length, get_or};
 ghost use Rattle.model.specs.Limits.{max_links};
 ghost use Rattle.hierarchy.specs.Links.{entry_at, links_of, Fitting, Right};

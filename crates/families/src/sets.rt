@@ -29,7 +29,7 @@ fn pack(marks: &[u8; BYTES], at: usize) -> u16
 
 // Writes the set of those that are marked.
 pub fn write_set(families: &mut [u16], at: usize, marks: &[u8; BYTES])
-    requires { (at + wide ≤ length families.old) }
+    requires { at + wide ≤ length families.old }
     ensures { SetWritten families.old families.new at marks.now }
 {
     for j in 0..WIDE {
@@ -71,7 +71,7 @@ fn unpack(members: &mut [u8; BYTES], count: usize, at: usize, marks: u16) -> usi
 // Writes those of the set at `at` to the front of `members`, in ascending order.
 #[tactic(auto, using(crate::proofs::Marking::listed_none, crate::proofs::Marking::listed_more))]
 pub fn list(families: &[u16], at: usize, members: &mut [u8; BYTES]) -> usize
-    requires { (at + wide ≤ length families.now) }
+    requires { at + wide ≤ length families.now }
     ensures { (result ≤ bytes) × (take result members.new ≡ listed families.now at wide) }
 {
     let mut n = 0;
@@ -84,7 +84,7 @@ pub fn list(families: &[u16], at: usize, members: &mut [u8; BYTES]) -> usize
 // Marks d, if the lowest mark of w is set.
 #[tactic(auto, using(crate::proofs::Uniting::adds_one))]
 fn mark_lowest(marks: &mut [u8; BYTES], d: usize, w: u16)
-    requires { (d < bytes) }
+    requires { d < bytes }
     ensures { Adds marks.old marks.new (only (eqb (w % 2) 1) d) }
 {
     if w % 2 == 1 {
@@ -109,7 +109,7 @@ fn mark_number(marks: &mut [u8; BYTES], at: usize, x: u16)
 
 // Marks those of the set at `at`.
 pub fn mark_set(families: &[u16], at: usize, marks: &mut [u8; BYTES])
-    requires { (at + wide ≤ length families.now) }
+    requires { at + wide ≤ length families.now }
     ensures { Adds marks.old marks.new (listed families.now at wide) }
 {
     for j in 0..WIDE {

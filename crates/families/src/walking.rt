@@ -1,7 +1,7 @@
 // The family of a constant, found member by member.
-ghost use Rattle.std.specs.Prelude.{◌≡◌, ℕ, ◌<◌};
+ghost use Rattle.std.specs.Prelude.{◌≡◌, ◌<◌};
 ghost use Rattle.rules.specs.Families.{join_all};
-ghost use Rattle.families.specs.Kin.{bytes, child_in, children_in, family_in};
+ghost use Rattle.families.specs.Kin.{child_in, children_in, family_in};
 ghost use Rattle.families.specs.Members.{members_of};
 
 use super::entries::Entries;
@@ -31,8 +31,7 @@ impl Family {
 impl Entries<'_> {
     // Finds the family of c, for a verb and position, member by member: each has a bucket of its own, so each of the at most 1,024 entries is looked at once at
     // most.
-    pub fn family(&self, key: u16, c: u16) -> Family
-        requires { c < bytes }
+    pub fn family(&self, key: u16, c: u8) -> Family
         ensures { members_of result ≡ family_in self.now.families.now self.now.count key c }
     {
         let mut family = Family::of(c);

@@ -5,14 +5,13 @@ ghost use Rattle.std.specs.Prelude.{◌≡◌, List, ℕ, ◌+◌, ◌*◌, ◌�
 ghost use Rattle.model.specs.Limits.{max_links};
 ghost use Rattle.model.specs.Syntax.{Constant, Verb};
 ghost use Rattle.model.specs.Entries.{read_hierarchy};
-ghost use Rattle.wire.specs.Budget.{farthest, longest};
+ghost use Rattle.wire.specs.Budget.{longest};
 ghost use Rattle.phrases.specs.Tables.{Tables};
 ghost use Rattle.slices.specs.Steps.{step_of};
 ghost use Rattle.slices.specs.Lists.{count_of};
 ghost use Rattle.hierarchy.specs.Links.{entry_at, told};
 ghost use Rattle.hierarchy.specs.Reading.{fits_by, entry_by};
 
-use limits::HEADER;
 use phrases::ROW;
 use slices::lists::{self, Reader};
 use slices::{Reason, Refusal};
@@ -25,9 +24,6 @@ const PARENT: usize = 2;
 const CHILD: usize = 4;
 
 const ENTRY: usize = 6;
-
-// The entries stand behind their 2-byte count.
-const FIRST: usize = HEADER + 2;
 
 // What entries are read by: the kinds of the policy's constants, and the signatures of its verbs.
 #[derive(Clone, Copy)]
@@ -106,7 +102,7 @@ pub fn entry_at(hierarchy: &[u8], k: usize) -> Numbers
     requires { k ≤ max_links }
     ensures { result ≡ told (entry_at hierarchy.now k) }
 {
-    let at = FIRST + ENTRY * k;
+    let at = lists::FIRST_ITEM + ENTRY * k;
     Numbers {
         verb: wire::byte_or(hierarchy, at) as u16,
         position: wire::byte_or(hierarchy, at + POSITION) as u16,

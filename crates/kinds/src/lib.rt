@@ -2,7 +2,7 @@
 #![tactic(auto)]
 
 ghost use Rattle.std.specs.Prelude.{◌≡◌};
-ghost use Rattle.kinds.specs.Cells.{nothing, renamed, relabel, cell_of, is_counted, joined, merged, counted, alike, numbered};
+ghost use Rattle.kinds.specs.Cells.{nothing, renamed, relabel, cell_of, is_counted, merged, counted, alike, numbered};
 
 use limits::{Kind, VARIABLES};
 
@@ -42,11 +42,7 @@ fn renamed(c: Cell, a: Cell, b: Cell) -> Cell
 fn relabel(t: Cells, a: Cell, b: Cell) -> Cells
     ensures { result ≡ relabel t a b }
 {
-    let mut u = t;
-    for c in u.iter_mut() {
-        *c = renamed(*c, a, b);
-    }
-    u
+    t.map(|c| renamed(c, a, b))
 }
 
 // The cell of a term.
@@ -70,24 +66,19 @@ fn is_counted(c: Cell) -> bool
     }
 }
 
-// Cells a and b, two that differ, become one.
-fn joined(t: Cells, a: Cell, b: Cell) -> Option<Cells>
-    ensures { result ≡ joined t a b }
+// Cells a and b become one. In place, as `alike` is.
+#[inline(always)]
+fn merged(t: Cells, a: Cell, b: Cell) -> Option<Cells>
+    ensures { result ≡ merged t a b }
 {
     match (a, b) {
+        _ if a == b => Some(t),
         (Cell::Leads(_), _) => Some(relabel(t, a, b)),
         (_, Cell::Leads(_)) => Some(relabel(t, b, a)),
         (Cell::Counted(_), _) if is_counted(b) => Some(relabel(t, a, b)),
         (_, Cell::Counted(_)) if is_counted(a) => Some(relabel(t, b, a)),
         _ => None,
     }
-}
-
-// Cells a and b become one.
-fn merged(t: Cells, a: Cell, b: Cell) -> Option<Cells>
-    ensures { result ≡ merged t a b }
-{
-    if a == b { Some(t) } else { joined(t, a, b) }
 }
 
 // A cell becomes one of days or quantities.

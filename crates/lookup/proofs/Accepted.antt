@@ -152,7 +152,6 @@ module _ (s : List ℕ) (bytes : (i : ℕ) → byte_at s i < 256) where
 pub record Laid (ats : List ℕ) (count most : ℕ) (model : List ℕ) : Type 0 where
   pub near : Near (take count ats)
   pub few : count ≤ most
-  pub counted : count ≡ length model
   pub front : take count ats ≡ model
 
 front_of_law : {A : Type 0} (n : ℕ) (js : List (Item A)) → take (length js) (held n (offsets js)) ≡ offsets js
@@ -163,7 +162,6 @@ laid_of : {A : Type 0} (n : ℕ) (js : List (Item A)) → length js ≤ n → ((
 laid_of n js few small = record {
   near = record { small = rw front_of_law (λ k h. small k (rw length-map at h)) };
   few = few;
-  counted = sym (length-map js (λ i. i.at));
   front = front_of_law n js;
 }
 

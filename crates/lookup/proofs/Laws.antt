@@ -5,7 +5,7 @@ use mathlib.Core.List.{List, [], ◌∷◌, ◌++◌}
 use Prim.Native.Nat.{ℕ, zero, suc, ◌+◌, ◌-◌, min, ◌≤◌, ◌<◌}
 use native.Mathlib.Numerals.{add-one}
 use native.Mathlib.Omega.{arith}
-use lib.ListN.{length, get_or, set, take, drop}
+use lib.ListN.{length, length-take, get_or, set, take, drop}
 use lib.Seq.{ext_get_or}
 use Rattle.wire.proofs.Reading.{choose_true, choose_false}
 use Rattle.model.specs.Bytes.{byte_at, bytes_at, choose}
@@ -28,13 +28,10 @@ over_next L t i h k = go L t i h k ∙ ap (over L t) (sym (add-one i))
     go (a ∷ L) (b ∷ t) zero h k = refl
     go (a ∷ L) (b ∷ t) (suc i) h k = ap (λ (l : List ℕ). a ∷ l) (go L t i (omega arith) (omega arith))
 
-pub over_none : (L t : List ℕ) → over L t 0 ≡ t
-over_none L t = refl
-
 -- as many as fit
-pub over_all : (L t : List ℕ) (n : ℕ) → n ≡ min (length L) (length t) → over L t n ≡ laid L t
+pub over_all : (L t : List ℕ) (n i : ℕ) → n ≡ min (length L) (length t) → length (take n L) ≤ i → i ≤ length (take n L) → over L t i ≡ laid L t
 unfolding laid
-over_all L t n e = ap (over L t) e ∙ go L t
+over_all L t n i e h k = ap (over L t) (let l = length-take n L in omega arith) ∙ go L t
   where
     go : (L t : List ℕ) → over L t (min (length L) (length t)) ≡ take (length t) L ++ drop (length L) t
     go [] [] = refl

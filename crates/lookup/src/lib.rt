@@ -11,15 +11,18 @@ ghost use Rattle.lookup.specs.Named.{Near, Standing, named_at, number_or};
 // There is no such constant: the C interface has numbers alone.
 pub const NO_NUMBER: u32 = 0xFFFFFFFF;
 
-// These numbers, as many as fit; the rest of `offsets` stays as lent.
-#[tactic(auto, using(crate::proofs::Laws::over_none, crate::proofs::Laws::over_next, crate::proofs::Laws::over_all))]
-fn lay(ats: &[usize], offsets: &mut [u32])
-    requires { Near ats.now }
-    ensures { offsets.new ≡ laid ats.now offsets.old }
+// These numbers, as many as fit, and how many they are; the rest of `offsets` stays as lent.
+#[tactic(auto, using(crate::proofs::Laws::over_next, crate::proofs::Laws::over_all))]
+fn lay(ats: &[usize], offsets: &mut [u32]) -> u32
+    requires { Near ats.now × (length ats.now ≤ 255) }
+    ensures count { result ≡ length ats.now }
+    ensures written { offsets.new ≡ laid ats.now offsets.old }
 {
-    for i in 0..ats.len().min(offsets.len()) {
-        offsets[i] = ats[i] as u32;
+    let n = ats.len().min(offsets.len());
+    for (i, at) in ats[..n].iter().enumerate() {
+        offsets[i] = *at as u32;
     }
+    ats.len() as u32
 }
 
 // 0 and no Result for a policy that is not accepted: the C interface has numbers alone.
@@ -29,10 +32,7 @@ pub fn constants(policy: &[u8], offsets: &mut [u32]) -> u32
     ensures written { offsets.new ≡ laid (constant_offsets (read_policy policy.now)) offsets.old }
 {
     match policy::read(policy) {
-        Ok(x) => {
-            lay(&x.constant_at[..x.constants], offsets);
-            x.constants as u32
-        }
+        Ok(x) => lay(&x.constant_at[..x.constants], offsets),
         Err(_) => 0,
     }
 }
@@ -43,10 +43,7 @@ pub fn verbs(policy: &[u8], offsets: &mut [u32]) -> u32
     ensures written { offsets.new ≡ laid (verb_offsets (read_policy policy.now)) offsets.old }
 {
     match policy::read(policy) {
-        Ok(x) => {
-            lay(&x.verb_at[..x.verbs], offsets);
-            x.verbs as u32
-        }
+        Ok(x) => lay(&x.verb_at[..x.verbs], offsets),
         Err(_) => 0,
     }
 }
@@ -77,8 +74,8 @@ fn first(policy: &[u8], kinds: &[u8], ats: &[usize], kind: usize, label: &[u8]) 
         ≡ first_of (λ j. named_at policy.now kinds.now kind label.now j (get_or ats.now j 0)) 0 (length ats.now) }
     ensures within { IfSome result (λ i. i < length ats.now) }
 {
-    for i in 0..ats.len() {
-        if named(policy, kinds, i, ats[i], kind, label) {
+    for (i, at) in ats.iter().enumerate() {
+        if named(policy, kinds, i, *at, kind, label) {
             return Some(i);
         }
     }
@@ -94,13 +91,10 @@ pub fn find(policy: &[u8], kind: u32, label: &[u8]) -> u32
         return NO_NUMBER;
     }
     match policy::read(policy) {
-        Ok(x) => {
-            let found = first(policy, &x.kinds, &x.constant_at[..x.constants], kind, label);
-            match found {
-                Some(i) => i as u32,
-                None => NO_NUMBER,
-            }
-        }
+        Ok(x) => match first(policy, &x.kinds, &x.constant_at[..x.constants], kind, label) {
+            Some(i) => i as u32,
+            None => NO_NUMBER,
+        },
         Err(_) => NO_NUMBER,
     }
 }

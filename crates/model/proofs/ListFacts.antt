@@ -2,7 +2,7 @@
 use mathlib.Core.Path.{◌≡◌, refl, sym, ap, ap₂, subst, ◌∙◌}
 use mathlib.Core.Logic.{◌⊎◌, inl, inr, ⊎_elim}
 use mathlib.Core.List.{List, [], ◌∷◌, ◌++◌, map, Memᴰ}
-use mathlib.Core.Bool.{Bool, true, false, cond, ◌&&◌, ◌||◌}
+use mathlib.Core.Bool.{Bool, true, false, cond, ◌&&◌, ◌||◌, or_assoc}
 use Prim.Native.Nat.{ℕ, suc, ◌≤◌, zero-le, suc-le-suc}
 use lib.ListN.{length}
 use lib.Dec.{T, eqb, eqb→eq, eqb_refl}
@@ -114,6 +114,10 @@ member_of n l t = let r = any_of_law (eqb n) l t in mathlib.Core.List.Memᴰ.cas
 
 pub member_in : {n : ℕ} {l : List ℕ} → Memᴰ n l → T (member n l)
 member_in {n} m = any_in (eqb n) m (eqb_refl n)
+
+pub member_append : (n : ℕ) (l m : List ℕ) → member n (l ++ m) ≡ (member n l || member n m)
+member_append n [] m = refl
+member_append n (x ∷ l) m = ap (λ (b : Bool). eqb n x || b) (member_append n l m) ∙ sym (or_assoc (eqb n x) (member n l) (member n m))
 
 -- ---- counting
 

@@ -17,7 +17,7 @@ use Rattle.model.specs.Bytes.{byte_at, choose, Reading, got, refused, and_then}
 use Rattle.model.specs.Readings.{expr_at, fact_at, constraint_at}
 use Rattle.model.specs.Forms as forms
 use Rattle.model.specs.Nodes.{parts_form, variable_form, check_parts, fitted, check_says, check_test, check_by, check_node}
-use Rattle.wire.proofs.Reading.{choose_true, choose_false, both_first, both_second}
+use Rattle.wire.proofs.Reading.{choose_true, choose_false, both_first, both_second, past_end}
 use Rattle.kinds.specs.Cells.{Cells, Ask, feed, nothing}
 use Rattle.kinds.specs.Asks.{ask_place, ask_test, asks_for, Regular}
 use Rattle.kinds.specs.Choices.{MeetsAll}
@@ -27,14 +27,14 @@ use Rattle.kinds.proofs.Model.{fits_asks}
 use Rattle.phrases.specs.Tables.{Tables}
 use Rattle.phrases.specs.Phrases.{test_asks, code_form}
 use Rattle.phrases.proofs.Model.{form_is, place_is, fact_asks_law, test_asks_law, places_regular}
-use Rattle.nodes.specs.Tree.{shape_at}
+use Rattle.nodes.specs.Tree.{shape_of, shape_at}
 use Rattle.slices.specs.Steps.{number_of}
 use Rattle.slices.specs.declared.Refusal.{Refusal}
 use Rattle.slices.specs.declared.Reason.TheVariants as reasons
-use Rattle.nodes.specs.Nodes.{stop, read_then, reads_by, own_form, fits_to, test_in, says_asks, says_to, says_in, read_of, read_in}
+use Rattle.nodes.specs.Nodes.{stop, read_then, reads_by, own_form, fits_to, test_in, says_asks, says_to, says_in, read_of, formed_of, read_in}
 use Rattle.nodes.specs.declared.Reached.{Reached}
 use Rattle.nodes.specs.declared.shape.Shape.{Shape}
-use Rattle.nodes.specs.declared.shape.Shape.TheVariants.{Says, Test, All, Any, Not, Exists, Nothing}
+use Rattle.nodes.specs.declared.shape.Shape.TheVariants.{Says, Test, All, Any, Not, Exists}
 use Rattle.nodes.proofs.TreeLaws.{by_bool, named, sort_is}
 
 -- ---- what two items ask together
@@ -104,10 +104,11 @@ module _ (cs : List Constant) where
   reads_unless true b x y u v p q = p
   reads_unless false b x y u v p q = q
 
-  reads_either : (b : Bool) (x y : Result Reached Refusal) (u v : Reading Demands) → Reads x u → Reads y v → Reads (if not b then x else y) (choose b v u)
+  reads_formed : (b : Bool) (x : Result Reached Refusal) (v : Reading Demands) (at : ℕ) → Reads x v
+      → Reads (if b then x else stop reasons.Form at) (choose b v (refused 3 at))
   unfolding choose
-  reads_either true x y u v p q = q
-  reads_either false x y u v p q = p
+  reads_formed true x v at p = p
+  reads_formed false x v at p = (refl, refl)
 
   -- an item that asks E, after those that ask D
   module _ (t : Cells) (D E : Demands) (qs : List Ask) (S : State t D) (same-asks : (κ : List ℕ) → MeetsAll κ qs ↔ MeetsAll κ (asks_for cs E))
@@ -207,26 +208,26 @@ module _ {cs : List Constant} {vs : List Verb} {ks sg : List ℕ} (X : Tables cs
 
   -- ---- nodes
 
-  reads_of : (k : Shape) (f : ℕ → Cells → Result Reached Refusal) (h : Demands → ℕ → Reading Demands) → Agree cs f h
+  reads_of : (k : Option Shape) (f : ℕ → Cells → Result Reached Refusal) (h : Demands → ℕ → Reading Demands) → Agree cs f h
       → (at : ℕ) (t : Cells) (D : Demands) → State cs t D
-      → Reads cs (if not (own_form s k at) then stop reasons.Form at else read_of ks sg s k f at t) (check_by cs vs s (named k) h D at)
+      → Reads cs (formed_of ks sg s k f at t) (check_by cs vs s (named k) h D at)
   unfolding own_form read_of check_by says_in
-  reads_of Says f h a at t D S = rw (form_is X s (length s) (at + 3)) (reads_says (forms.fact_form vs s (length s) (at + 3)) at t D S)
-  reads_of Test f h a at t D S = reads_test at t D S
-  reads_of All f h a at t D S = reads_either cs (parts_form s (at + 1)) _ _ _ _ (refl, refl) (reads_parts cs f h a (byte_at s (at + 1)) (at + 2) t D S)
-  reads_of Any f h a at t D S = reads_either cs (parts_form s (at + 1)) _ _ _ _ (refl, refl) (reads_parts cs f h a (byte_at s (at + 1)) (at + 2) t D S)
-  reads_of Not f h a at t D S = a (at + 1) t D S
-  reads_of Exists f h a at t D S = reads_either cs (variable_form s (at + 1)) _ _ _ _ (refl, refl) (a (at + 2) t D S)
-  reads_of Nothing f h a at t D S = (refl, refl)
+  reads_of (Some Says) f h a at t D S = rw (form_is X s (length s) (at + 3)) (reads_says (forms.fact_form vs s (length s) (at + 3)) at t D S)
+  reads_of (Some Test) f h a at t D S = reads_test at t D S
+  reads_of (Some All) f h a at t D S = reads_formed cs (parts_form s (at + 1)) _ _ at (reads_parts cs f h a (byte_at s (at + 1)) (at + 2) t D S)
+  reads_of (Some Any) f h a at t D S = reads_formed cs (parts_form s (at + 1)) _ _ at (reads_parts cs f h a (byte_at s (at + 1)) (at + 2) t D S)
+  reads_of (Some Not) f h a at t D S = a (at + 1) t D S
+  reads_of (Some Exists) f h a at t D S = reads_formed cs (variable_form s (at + 1)) _ _ at (a (at + 2) t D S)
+  reads_of None f h a at t D S = (refl, refl)
 
   -- THE LAW
   pub reads_node : (d at : ℕ) (t : Cells) (D : Demands) → State cs t D → Reads cs (read_in ks sg s d at t) (check_node cs vs s d D at)
-  unfolding read_in check_node
+  unfolding read_in check_node shape_of choose
   reads_node zero at t D S = (refl, refl)
   reads_node (suc d) at t D S =
-      rw (sort_is (byte_at s at))
-      (reads_unless cs (leb (length s) at) (own_form s (shape_at s at) at) _ _ _ _ (refl, refl)
-      (reads_of (shape_at s at) (read_in ks sg s d) (check_node cs vs s d) (λ p u E T. reads_node d p u E T) at t D S))
+      by_bool (leb (length s) at)
+      (λ o. rw (o, past_end s at (leb-true (length s) at o)) (refl, refl))
+      (λ o. rw (o, sort_is (byte_at s at)) (reads_of (shape_at s at) (read_in ks sg s d) (check_node cs vs s d) (λ p u E T. reads_node d p u E T) at t D S))
 
   pub state_none : State cs nothing no_demands
   unfolding feed

@@ -1,49 +1,43 @@
 -- The walk over a tree, one step on.
-use Rattle.std.proofs.Common.{◌≡◌, refl, List, ℕ, ◌+◌, ◌-◌, ◌≤◌, ◌<◌, length, ◌⊎◌, inl, inr}
+use Rattle.std.proofs.Common.{◌≡◌, List, ℕ, ◌+◌, ◌-◌, ◌≤◌, ◌<◌, ◌⊎◌, inl, inr, Some, None}
 use Rattle.model.specs.Bytes.{byte_at}
 use Rattle.model.specs.Readings.{expr_at, constraint_at}
 use Rattle.phrases.specs.Phrases.{fact_by}
-use Rattle.nodes.specs.Tree.{shape_at, end_in, tree_in, nodes_in}
+use Rattle.nodes.specs.Tree.{shape_at, shape_in, end_in, tree_in, nodes_in}
 use Rattle.nodes.specs.Walk.{Steps, walked, all_walked}
-use Rattle.nodes.specs.declared.shape.Shape.TheVariants.{Says, Test, All, Any, Not, Exists, Nothing}
-use Rattle.nodes.proofs.TreeSteps.{nodes_done, nodes_next, tree_deep, tree_past, tree_says, tree_test, tree_all, tree_any, tree_not, tree_exists}
-use Rattle.nodes.proofs.TreeSteps.{tree_nothing}
+use Rattle.nodes.specs.declared.shape.Shape.TheVariants.{Says, Test, All, Any, Not, Exists}
+use Rattle.nodes.proofs.TreeSteps.{nodes_done, nodes_next, tree_none, tree_says, tree_test, tree_all, tree_any, tree_not, tree_exists}
 
 module _ {S : Type 0} (w : Steps S) (sg s : List ℕ) where
   module _ (d at : ℕ) (m : S) where
-    pub walk_outside : (d ≡ 0) ⊎ ((d ≡ 0 → ⊥) × (length s ≤ at)) → walked w (tree_in sg s d at) m ≡ m
+    pub walk_none : shape_in s d at ≡ None → walked w (tree_in sg s d at) m ≡ m
     unfolding walked all_walked
-    walk_outside (inl e) = rw (tree_deep sg s d at e)
-    walk_outside (inr p) = rw (tree_past sg s d at p.1)
+    walk_none g = rw (tree_none sg s d at g)
 
-    module _ (n : d ≡ 0 → ⊥) (l : at < length s) where
-      pub walk_says : shape_at s at ≡ Says → walked w (tree_in sg s d at) m ≡ w.at_says (expr_at s (at + 1)) (fact_by sg s (at + 3)) m
+    module _ (n : d ≡ 0 → ⊥) where
+      pub walk_says : shape_at s at ≡ Some Says → walked w (tree_in sg s d at) m ≡ w.at_says (expr_at s (at + 1)) (fact_by sg s (at + 3)) m
       unfolding walked
-      walk_says g = rw (tree_says sg s d at (shape_at s at) n l refl g)
+      walk_says g = rw (tree_says sg s d at n g)
 
-      pub walk_test : shape_at s at ≡ Test → walked w (tree_in sg s d at) m ≡ w.at_test (constraint_at s (at + 1)) m
+      pub walk_test : shape_at s at ≡ Some Test → walked w (tree_in sg s d at) m ≡ w.at_test (constraint_at s (at + 1)) m
       unfolding walked
-      walk_test g = rw (tree_test sg s d at (shape_at s at) n l refl g)
+      walk_test g = rw (tree_test sg s d at n g)
 
-      pub walk_inside : (shape_at s at ≡ All) ⊎ (shape_at s at ≡ Any)
+      pub walk_inside : (shape_at s at ≡ Some All) ⊎ (shape_at s at ≡ Some Any)
           → walked w (tree_in sg s d at) m ≡ all_walked w (nodes_in sg s (d - 1) (byte_at s (at + 1)) (at + 2)) m
       unfolding walked
-      walk_inside (inl g) = rw (tree_all sg s d at (shape_at s at) n l refl g)
-      walk_inside (inr g) = rw (tree_any sg s d at (shape_at s at) n l refl g)
+      walk_inside (inl g) = rw (tree_all sg s d at n g)
+      walk_inside (inr g) = rw (tree_any sg s d at n g)
 
-      pub walk_not : shape_at s at ≡ Not → walked w (tree_in sg s d at) m ≡ walked w (tree_in sg s (d - 1) (at + 1)) m
+      pub walk_not : shape_at s at ≡ Some Not → walked w (tree_in sg s d at) m ≡ walked w (tree_in sg s (d - 1) (at + 1)) m
       unfolding walked
-      walk_not g = rw (tree_not sg s d at (shape_at s at) n l refl g)
+      walk_not g = rw (tree_not sg s d at n g)
 
-      pub walk_exists : shape_at s at ≡ Exists
+      pub walk_exists : shape_at s at ≡ Some Exists
           → walked w (tree_in sg s d at) m
           ≡ w.leave (byte_at s (at + 1)) m (walked w (tree_in sg s (d - 1) (at + 2)) (w.enter (byte_at s (at + 1)) m))
       unfolding walked
-      walk_exists g = rw (tree_exists sg s d at (shape_at s at) n l refl g)
-
-      pub walk_nothing : shape_at s at ≡ Nothing → walked w (tree_in sg s d at) m ≡ m
-      unfolding walked all_walked
-      walk_nothing g = rw (tree_nothing sg s d at (shape_at s at) n l refl g)
+      walk_exists g = rw (tree_exists sg s d at n g)
 
   module _ (d n i at : ℕ) (m : S) where
     pub walk_done : n ≤ i → all_walked w (nodes_in sg s d (n - i) at) m ≡ m
@@ -55,4 +49,4 @@ module _ {S : Type 0} (w : Steps S) (sg s : List ℕ) where
     unfolding all_walked
     walk_next h = rw (nodes_next (tree_in sg s d) (end_in sg s d) n i at h)
 
-pub ruleset walk_steps = (walk_outside, walk_says, walk_test, walk_inside, walk_not, walk_exists, walk_nothing, walk_done, walk_next)
+pub ruleset walk_steps = (walk_none, walk_says, walk_test, walk_inside, walk_not, walk_exists, walk_done, walk_next)

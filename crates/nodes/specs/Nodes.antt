@@ -1,5 +1,5 @@
 -- Reading a request's nodes as the code does: the cells of the kinds are handed on from node to node.
-use Rattle.std.specs.Prelude.{ℕ, zero, suc, ◌+◌, List, ◌∷◌, Bool, true, false, ◌||◌, not, length, nat_lt, nat_le, if◌then◌else◌}
+use Rattle.std.specs.Prelude.{ℕ, zero, suc, ◌+◌, List, ◌∷◌, Bool, true, ◌||◌, not, length, nat_lt, if◌then◌else◌}
 use Rattle.std.specs.Prelude.{Option, Some, None, Result, Ok, Err}
 use Rattle.model.specs.Bytes.{byte_at}
 use Rattle.model.specs.Forms.{operator_form}
@@ -16,7 +16,7 @@ use Rattle.slices.specs.declared.Reason.TheVariants as reasons
 use Rattle.nodes.specs.Tree.{shape_at}
 use Rattle.nodes.specs.declared.Reached.{Reached}
 use Rattle.nodes.specs.declared.shape.Shape.{Shape}
-use Rattle.nodes.specs.declared.shape.Shape.TheVariants.{Says, Test, All, Any, Not, Exists, Nothing}
+use Rattle.nodes.specs.declared.shape.Shape.TheVariants.{Says, Test, All, Any, Not, Exists}
 
 -- reading goes on at p, with the cells t
 abbrev pub next : ℕ → Cells → Result Reached Refusal
@@ -43,7 +43,6 @@ own_form s All at = parts_form s (at + 1)
 own_form s Any at = parts_form s (at + 1)
 own_form s Not at = true
 own_form s Exists at = variable_form s (at + 1)
-own_form s Nothing at = false
 
 -- the item at `at` that ends at e, by its kinds
 abbrev pub fits_to : Option Cells → ℕ → ℕ → Result Reached Refusal
@@ -76,11 +75,13 @@ module _ (ks sg s : List ℕ) where
   read_of Any f at t = reads_by f (byte_at s (at + 1)) (at + 2) t
   read_of Not f at t = f (at + 1) t
   read_of Exists f at t = f (at + 2) t
-  read_of Nothing f at t = stop reasons.Form at
+
+  -- if it has one, and the form of its own bytes is right
+  abbrev pub formed_of : Option Shape → (ℕ → Cells → Result Reached Refusal) → ℕ → Cells → Result Reached Refusal
+  formed_of (Some k) f at t = if own_form s k at then read_of k f at t else stop reasons.Form at
+  formed_of None f at t = stop reasons.Form at
 
   -- the node at `at`, which may hold others d - 1 deep, after items that left the cells t
   unfoldable pub read_in : ℕ → ℕ → Cells → Result Reached Refusal
   read_in zero at t = stop reasons.Form at
-  read_in (suc d) at t =
-      if nat_le (length s) at || not (own_form s (shape_at s at) at) then stop reasons.Form at
-      else read_of (shape_at s at) (read_in d) at t
+  read_in (suc d) at t = formed_of (shape_at s at) (read_in d) at t

@@ -5,7 +5,6 @@ ghost use Rattle.std.specs.Prelude.{◌≡◌, ◌+◌, ◌≤◌, ◌<◌};
 ghost use Rattle.model.specs.Nodes.{parts_form, variable_form};
 ghost use Rattle.kinds.specs.Cells.{feed};
 ghost use Rattle.wire.specs.Budget.{longest};
-ghost use Rattle.nodes.specs.Tree.{shape_at};
 ghost use Rattle.nodes.specs.Nodes.{own_form, fits_to, test_in, says_asks, says_in, reads_by, read_in};
 
 use kinds::{Cells, Term};
@@ -56,16 +55,15 @@ fn fitted(fit: Option<Cells>, at: usize, e: usize) -> Result<Reached, Refusal>
 // That a node's place is near is asked by what reads the node alone: `node` and `parts` take any place, and find it past the end or near.
 impl Tree<'_> {
     // The form of a node's own bytes, but for a says node and a constraint.
-    #[tactic(auto, using(crate::proofs::NodeSteps::own_steps))]
-    fn own_form(&self, at: usize) -> bool
+    #[tactic(auto, unfolding(crate::specs::Nodes::own_form))]
+    fn own_form(&self, shape: Shape, at: usize) -> bool
         requires { at ≤ longest }
-        ensures { result ≡ own_form self.now.text.bytes.now (shape_at self.now.text.bytes.now at) at }
+        ensures { result ≡ own_form self.now.text.bytes.now shape at }
     {
-        match self.shape_at(at) {
+        match shape {
             Shape::Says | Shape::Test | Shape::Not => true,
             Shape::All | Shape::Any => parts_form(self.text.bytes, at + 1),
             Shape::Exists => variable_form(self.text.bytes, at + 1),
-            Shape::Nothing => false,
         }
     }
 
@@ -107,16 +105,22 @@ impl Tree<'_> {
     }
 
     // A node that may hold others d - 1 deep. No walk as in `walk`: where reading goes on is what the node before says.
+    // It calls itself: the tree is in the bytes and there is no heap; a level of it is left at each call.
     #[cycle(node_parts)]
     #[tactic(auto, using(crate::proofs::NodeSteps::read_steps))]
     pub fn node(&self, kinds: &[u8], d: usize, from: Reached) -> Result<Reached, Refusal>
         ensures { result ≡ read_in kinds.now self.now.text.signatures.now self.now.text.bytes.now d from.at from.cells }
     {
         let Reached { at, cells } = from;
-        if d == 0 || self.text.bytes.len() <= at || !self.own_form(at) {
-            return Err(Reason::Form.at(at));
+        let form = Reason::Form.at(at);
+        if d == 0 {
+            return Err(form);
         }
-        match self.shape_at(at) {
+        let shape = self.shape_at(at).ok_or(form)?;
+        if !self.own_form(shape, at) {
+            return Err(form);
+        }
+        match shape {
             Shape::Says => self.says_at(kinds, from),
             Shape::Test => self.test_at(kinds, from),
             Shape::All | Shape::Any => {
@@ -125,7 +129,6 @@ impl Tree<'_> {
             }
             Shape::Not => self.node(kinds, d - 1, Reached { at: at + 1, cells }),
             Shape::Exists => self.node(kinds, d - 1, Reached { at: at + 2, cells }),
-            Shape::Nothing => Err(Reason::Form.at(at)),
         }
     }
 

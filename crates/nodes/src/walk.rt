@@ -6,7 +6,6 @@ ghost use Rattle.wire.specs.Budget.{longest};
 ghost use Rattle.nodes.specs.Tree.{tree_in, nodes_in};
 ghost use Rattle.nodes.specs.Walk.{Steps, walked, all_walked};
 
-// It calls itself, as in `shape`: the tree is in the bytes, and a level is left at each call.
 use super::shape::{Place, Shape};
 use super::tree::Tree;
 use phrases::Text;
@@ -38,7 +37,7 @@ pub trait Visit {
 }
 
 impl Tree<'_> {
-    // The node at a place.
+    // The node at a place. It calls itself, as in `shape`: the tree is in the bytes, and a level is left at each call.
     #[cycle(walk_walk_parts)]
     #[tactic(auto, using(crate::proofs::WalkSteps::walk_steps))]
     pub fn walk<V: Visit>(&self, visit: &V, place: Place, state: V::State) -> V::State
@@ -46,11 +45,11 @@ impl Tree<'_> {
             (tree_in self.now.text.signatures.now self.now.text.bytes.now place.depth place.at) state }
     {
         let Place { depth, at } = place;
-        if depth == 0 || self.text.bytes.len() <= at {
+        let Some(shape) = self.shape_in(place) else {
             return state;
-        }
+        };
         let depth = depth - 1;
-        match self.shape_at(at) {
+        match shape {
             Shape::Says => visit.says(self.text, at, state),
             Shape::Test => visit.test(self.text, at, state),
             Shape::All | Shape::Any => self.walk_parts(
@@ -65,7 +64,6 @@ impl Tree<'_> {
                 let inside = self.walk(visit, Place { depth, at: at + 2 }, visit.enter(v, state));
                 visit.leave(v, state, inside)
             }
-            Shape::Nothing => state,
         }
     }
 

@@ -5,7 +5,7 @@ use native.Mathlib.Omega.{arith}
 use mathlib.Core.Path.{◌≡◌, refl, sym, ap, subst, ◌∙◌}
 use mathlib.Core.List.{List, [], ◌∷◌, ◌++◌, append_assoc}
 use lib.ListN.{length, take, drop, set, length-set}
-use lib.Seq.{paste, take-paste, drop-paste, take_all, length-paste, take-suc-set, drop-set-lt, drop-drop}
+use lib.Seq.{take-suc-set, drop-set-lt, drop-drop}
 use Rattle.outcome.specs.Line.{decimal}
 use Rattle.outcome.specs.Wrote.{Wrote}
 use Rattle.outcome.proofs.Decimals.{one_digit, more_digits, one_length, more_length}

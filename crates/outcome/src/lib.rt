@@ -64,8 +64,7 @@ fn digit(d: usize) -> u8
     48 + d as u8
 }
 
-// It calls itself: the first digit is written first and found last.
-// The digits of n, the last of them after those of n / 10.
+// The digits of n, the last of them after those of n / 10. It calls itself: the first digit is written first and found last.
 #[tactic(auto, using(crate::proofs::Decimals::one_length, crate::proofs::Decimals::more_length))]
 fn digits(out: &mut [u8], at: usize, n: usize) -> usize
     requires { at + length (decimal n) ≤ length out.old }

@@ -3,14 +3,11 @@ use Rattle.std.proofs.Common.{◌≡◌, ℕ, suc, ◌+◌, ◌-◌, ◌*◌, �
 use Rattle.std.proofs.Common.{Some, option_and_then, Ok, Err, refl, arith}
 use Rattle.model.specs.Bytes.{byte_at, both, choose}
 use Rattle.model.specs.Forms.{operator_form, operators_form}
-use Rattle.limits.specs.declared.Kind.TheVariants.{Principal}
-use Rattle.kinds.specs.declared.Term.TheVariants.{Any}
-use Rattle.kinds.specs.Cells.{Cells, same, asked, feed}
-use Rattle.kinds.specs.Asks.{kind_term}
+use Rattle.kinds.specs.Cells.{Cells, feed}
 use Rattle.kinds.proofs.Laws.{feed_append}
 use Rattle.phrases.specs.declared.Fault.TheVariants.{Broken}
-use Rattle.phrases.specs.Phrases.{arity_by, fact_next, facts_next, then_by, phrase_form_by, levels_form_by, fact_form_by, facts_form_by, place_at, params_asks}
-use Rattle.phrases.specs.Phrases.{levels_asks, fact_asks, facts_asks, test_asks, tests_asks}
+use Rattle.phrases.specs.Phrases.{fact_next, facts_next, then_by, phrase_form_by, levels_form_by, fact_form_by, facts_form_by}
+use Rattle.phrases.specs.Phrases.{fact_asks, facts_asks, test_asks, tests_asks}
 
 -- what is left of n after i, before one more and at the end
 pub left : (n i : ℕ) → i < n → n - i ≡ suc (n - (i + 1))
@@ -71,27 +68,6 @@ module _ (s : List ℕ) (n i p : ℕ) where
 -- ---- kinds
 
 module _ (ks sg s : List ℕ) (n i : ℕ) where
-  pub params_step : (k p : ℕ) (t : Cells) → i < n → feed (params_asks ks sg s (n - i) (k + i) (p + 2 * i)) t
-      ≡ option_and_then (feed (params_asks ks sg s (n - (i + 1)) (k + (i + 1)) (p + 2 * (i + 1))))
-      (asked (same (place_at ks s (p + 2 * i)) (kind_term (byte_at sg (k + i)))) t)
-  unfolding params_asks feed
-  params_step k p t h = let e : k + i + 1 ≡ k + (i + 1) = omega arith in rw (left n i h, ← next p 2 i, ← e)
-
-  pub params_end : (k p : ℕ) (t : Cells) → n ≤ i → feed (params_asks ks sg s (n - i) k p) t ≡ Some t
-  unfolding params_asks feed
-  params_end k p t h = rw (done n i h)
-
-  pub speakers_step : (p : ℕ) (t : Cells) → i < n → feed (levels_asks ks sg s (n - i) (p + 3 * i)) t
-      ≡ option_and_then (feed (levels_asks ks sg s (n - (i + 1)) (p + 3 * (i + 1)))) (asked (same (place_at ks s (p + 3 * i)) (Some (Any Principal))) t)
-  unfolding levels_asks feed
-  speakers_step p t h = rw (left n i h, ← next p 3 i)
-
-  pub speakers_end : (p : ℕ) (t : Cells) → n ≤ i → feed (levels_asks ks sg s (n - i) p) t
-      ≡ option_and_then (feed (params_asks ks sg s (arity_by sg (byte_at s (p + 2))) (4 * byte_at s (p + 2) + 1) (p + 3)))
-      (asked (same (place_at ks s p) (Some (Any Principal))) t)
-  unfolding levels_asks feed
-  speakers_end p t h = rw (done n i h)
-
   pub facts_step : (p : ℕ) (t : Cells) → i < n → feed (facts_asks ks sg s (n - i) p) t
       ≡ option_and_then (feed (facts_asks ks sg s (n - (i + 1)) (fact_next sg s p))) (feed (fact_asks ks sg s p) t)
   unfolding facts_asks

@@ -41,6 +41,13 @@ past_arity : (vs : List Verb) (v : ℕ) → length vs < v → arity_of vs v ≡ 
 unfolding arity_of
 past_arity vs v h = ap length (past_kinds vs v h)
 
+-- the kind of a place of a pair is among the kinds
+pub pair_kinds : (js : List ℕ) (es : List Expr) (p : ℕ × Expr) → Memᴰ p (pair js es) → Memᴰ p.0 js
+pair_kinds [] es p m = absurd (Memᴰ.not-nil m)
+pair_kinds (j ∷ js) [] p m = absurd (Memᴰ.not-nil m)
+pair_kinds (j ∷ js) (e ∷ es) p m =
+    ⊎_elim (λ q. Memᴰ.head (ap (λ (x : ℕ × Expr). x.0) q)) (λ n. Memᴰ.tail (pair_kinds js es p n)) (Memᴰ.cases_cons m)
+
 pub code_choose : (b : Bool) (x y : forms.Form) → code_form (choose b x y) ≡ cond b (code_form x) (code_form y)
 unfolding choose
 code_choose true x y = refl
@@ -236,12 +243,6 @@ module _ {cs : List Constant} {vs : List Verb} {ks sg : List ℕ} (X : Tables cs
     tests_asks_law (suc n) p = ap₂ ◌++◌ (test_asks_law p) (tests_asks_law n (p + 5))
 
   -- ---- the places of a fact have kinds of the four
-
-  pair_kinds : (js : List ℕ) (es : List Expr) (p : ℕ × Expr) → Memᴰ p (pair js es) → Memᴰ p.0 js
-  pair_kinds [] es p m = absurd (Memᴰ.not-nil m)
-  pair_kinds (j ∷ js) [] p m = absurd (Memᴰ.not-nil m)
-  pair_kinds (j ∷ js) (e ∷ es) p m =
-      ⊎_elim (λ q. Memᴰ.head (ap (λ (x : ℕ × Expr). x.0) q)) (λ n. Memᴰ.tail (pair_kinds js es p n)) (Memᴰ.cases_cons m)
 
   param_kinds_law : (v k : ℕ) → Memᴰ k (param_kinds vs v) → (1 ≤ k) × (k ≤ 4)
   param_kinds_law v k m = go (dec_lt (length vs) v)

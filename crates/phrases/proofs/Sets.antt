@@ -11,7 +11,8 @@ use borrow.Author.Tests.{eq-eqb, ne_eqb}
 use Rattle.model.specs.Lists.{keep, member, among, without}
 use Rattle.model.proofs.ListFacts.{and_of, and_in, all_of_law, all_in, keep_of, keep_in, member_of, member_in}
 use Rattle.phrases.specs.Marks.{none, marked, within, meet}
-use Rattle.model.proofs.Tests.{by_eq, T_iff, eqb_turned}
+use Rattle.model.proofs.Tests.{true_T, by_eq, T_iff, eqb_turned}
+use Rattle.std.proofs.lemmas.Bool.{false_from_ne_true}
 
 pub marked_append : (xs ys m : List ℕ) → marked (xs ++ ys) m ≡ marked ys (marked xs m)
 marked_append [] ys m = refl
@@ -96,12 +97,8 @@ module _ (a b : List ℕ) where
 
   -- what the code finds of a mark that is missing
   pub within_not : (n v : ℕ) → v < n → get_or a v 0 ≡ 1 → (get_or b v 0 ≡ 1 → ⊥) → within n a b ≡ false
-  within_not n v l e d = not_so (within n a b) (λ t. bare (get_or b v 0) d (within_of n t v l (rw e tt)))
+  within_not n v l e d = false_from_ne_true (within n a b) (λ q. bare (get_or b v 0) d (within_of n (true_T (within n a b) q) v l (rw e tt)))
     where
-      not_so : (q : Bool) → (T q → ⊥) → q ≡ false
-      not_so true f = absurd (f tt)
-      not_so false f = refl
-
       bare : (x : ℕ) → (x ≡ 1 → ⊥) → T (eqb x 1) → ⊥
       bare x f t = f (eqb→eq x 1 t)
 

@@ -1,3 +1,5 @@
 pub mod Tables
 pub mod Phrases
+pub mod Outlines
 pub mod Marks
+pub mod Rows

@@ -14,6 +14,7 @@ use Rattle.model.specs.Bytes.{byte_at, choose}
 use Rattle.model.specs.Readings.{item_end}
 use Rattle.slices.specs.Items.{starts_at}
 use Rattle.assertions.specs.Assertions.{issuer_read_at}
+use Rattle.phrases.proofs.Laws.{left}
 use Rattle.policy.specs.Index.{held, kind_of, row_at, kinds_at, signatures_at}
 
 pub any_choice : (b : Bool) (x y : List ℕ) (n : ℕ) → length x ≡ n → length y ≡ n → length (choose b x y) ≡ n
@@ -55,26 +56,23 @@ part_put t r a k h l =
     ∙ ap (λ (n : ℕ). take a t ++ (r ++ drop (a + n) t)) l
     ∙ ap (λ (x : List ℕ). take a t ++ (r ++ x)) (sym (drop-drop k a t)))
 
-one_less : (n i : ℕ) → i < n → n - i ≡ suc (n - (i + 1))
-one_less n i h = omega arith
-
 pub mul_less_none : (m n : ℕ) → m * (n - 0) ≡ m * n
 mul_less_none m n = ap (λ (k : ℕ). m * k) (let e : n - 0 ≡ n = omega arith in e)
 
 pub mul_one_less : (m n i : ℕ) → i < n → m * (n - i) ≡ m * (n - (i + 1)) + m
-mul_one_less m n i h = rw (one_less n i h) (Rattle.std.proofs.Math.Nat.mul-suc m (n - (i + 1)))
+mul_one_less m n i h = rw (left n i h) (Rattle.std.proofs.Math.Nat.mul-suc m (n - (i + 1)))
 
 module _ (g : ℕ → ℕ) where
   -- offsets
   pub left_starts : (t : List ℕ) (n i at y : ℕ) → i < n → y ≡ g at → sets t i (starts_at g (n - i) at) ≡ sets (set t i at) (i + 1) (starts_at g (n - (i + 1)) y)
   unfolding starts_at
-  left_starts t n i at y h d = rw (one_less n i h, add-one, d)
+  left_starts t n i at y h d = rw (left n i h, add-one, d)
 
   -- a number of each item
   pub left_map : (f : ℕ → ℕ) (t : List ℕ) (n i at y x : ℕ) → i < n → y ≡ g at → x ≡ f at
       → sets t i (map f (starts_at g (n - i) at)) ≡ sets (set t i x) (i + 1) (map f (starts_at g (n - (i + 1)) y))
   unfolding starts_at
-  left_map f t n i at y x h d e = rw (one_less n i h, add-one, d, e)
+  left_map f t n i at y x h d e = rw (left n i h, add-one, d, e)
 
   -- four numbers of each item
   pub left_rows : (f : ℕ → List ℕ) (t : List ℕ) (n i at y : ℕ) (r : List ℕ) (k : ℕ) → i < n → y ≡ g at → r ≡ f at → length r ≡ 4 → k ≡ 4
@@ -86,7 +84,7 @@ module _ (g : ℕ → ℕ) where
       let q : 4 * i + 4 + length r ≡ 4 * (i + 1) + 4 = omega arith in
       let b : 4 * i + 4 + k ≤ length t = omega arith in
       let v : length r ≡ k = omega arith in
-      ap (λ (k : ℕ). sets t (4 * i + 4) (each (starts_at g k at) f)) (one_less n i h)
+      ap (λ (k : ℕ). sets t (4 * i + 4) (each (starts_at g k at) f)) (left n i h)
       ∙ ap (λ (x : List ℕ). sets t (4 * i + 4) (x ++ rest)) (sym e)
       ∙ sets_append t r rest (4 * i + 4)
       ∙ ap (λ (j : ℕ). sets (sets t (4 * i + 4) r) j rest) q

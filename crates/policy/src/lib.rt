@@ -9,13 +9,11 @@ ghost use Rattle.wire.specs.Budget.{longest};
 ghost use Rattle.policy.specs.Index.{index_at, handed_out, said, label_of, label_part};
 
 use slices::Refusal;
+use slices::lists::FIRST_ITEM;
 
 pub mod tables;
 
-// The constants stand behind their 2-byte count.
-const FIRST_CONSTANT: usize = limits::HEADER + 2;
-
-// What a policy's reader hands out.
+// What a policy's reader hands out. There is no heap: each list is an array of fixed length, and how many of its numbers count stands beside it.
 #[derive(Clone, Copy)]
 pub struct Index {
     // as read
@@ -24,11 +22,11 @@ pub struct Index {
     pub constants: usize,
     pub verbs: usize,
     pub assertions: usize,
-    // the first byte of each
+    // the first byte of each; those of assertions are for hosts in Rattle, as the definitions have them (specs/Index), and nothing here reads them
     pub constant_at: [usize; limits::CONSTANTS],
     pub verb_at: [usize; limits::VERBS],
     pub assertion_at: [usize; limits::ASSERTIONS],
-    // and of each assertion's issuer: nothing else knows where that stands in its item
+    // and of each assertion's issuer, which others take it by
     pub issuer_at: [usize; limits::ASSERTIONS],
     // the kind of each constant, and four bytes for each verb from verb 0 on: arity and one, then the kinds of its parameters
     pub kinds: [u8; limits::CONSTANTS],
@@ -55,7 +53,7 @@ fn accepted(
         constants,
         verbs,
         assertions,
-        constant_at: tables::items(policy, constants, FIRST_CONSTANT),
+        constant_at: tables::items(policy, constants, FIRST_ITEM),
         verb_at: tables::items(policy, verbs, second + 2),
         assertion_at: tables::assertions(policy, assertions, third + 2),
         issuer_at: tables::issuers(policy, assertions, third + 2),
@@ -71,7 +69,7 @@ pub fn read(policy: &[u8]) -> Result<Index, Refusal>
     slices::lists::headed(policy, limits::POLICY_VERSIONS)?;
     let second = names::constants::constants(policy, limits::HEADER)?;
     let third = names::verbs::verbs(policy, second)?;
-    let kinds = tables::kinds(policy, wire::u16_or(policy, limits::HEADER), FIRST_CONSTANT);
+    let kinds = tables::kinds(policy, wire::u16_or(policy, limits::HEADER), FIRST_ITEM);
     let signatures = tables::signatures(policy, wire::u16_or(policy, second), second + 2);
     assertions::assertions(&kinds, &signatures, policy, third)?;
     Ok(accepted(policy, second, third, kinds, signatures))

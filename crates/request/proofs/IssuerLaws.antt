@@ -6,6 +6,7 @@ use Prim.Native.Nat.{ℕ, zero, suc, ◌+◌, ◌≤◌, ◌<◌}
 use native.Mathlib.Omega.{arith}
 use lib.ListN.{get_or, replicate, length-replicate}
 use lib.Dec.{eqb}
+use Rattle.std.proofs.lemmas.List.{get_or-replicate}
 use borrow.Author.Tests.{eq-eqb, ne_eqb}
 use Rattle.model.specs.Limits.{principal, max_depth, first_node_at}
 use Rattle.model.specs.Lists.{only, member}
@@ -20,7 +21,8 @@ use Rattle.phrases.specs.Marks.{marked}
 use Rattle.nodes.specs.Tree.{tree_in}
 use Rattle.request.specs.Issuing.{constants_by, world_by}
 use Rattle.nodes.proofs.TreeLaws.{tree_is}
-use Rattle.safety.proofs.SafeLaws.{set_at_law, member_append}
+use Rattle.model.proofs.ListFacts.{member_append}
+use Rattle.phrases.proofs.Sets.{marked_at}
 
 -- constant p is of a kind other than 0
 later : (k p n : ℕ) (cs : List Constant) → p < n → member p (of_kind k n cs) ≡ false
@@ -89,19 +91,14 @@ module _ (U W : World) (h : (p : ℕ) → member p (of_kind principal 0 U.consta
 abbrev zeros : ℕ → List ℕ
 zeros n = replicate n 0
 
-zeros_at : (n v : ℕ) → get_or (zeros n) v 0 ≡ 0
-zeros_at zero v = refl
-zeros_at (suc n) zero = refl
-zeros_at (suc n) (suc v) = zeros_at n v
-
 -- THE LAW
 pub issuers_are : (ks sg s z : List ℕ) → z ≡ marked (issuers (tree_in sg s max_depth first_node_at) (world_by ks)) (zeros 255) → (W : World)
     → Tables W.constants W.verbs ks sg
     → (p : ℕ) → p < 255 → get_or z p 0 ≡ cond (member p (issuers (node_at W.verbs s max_depth first_node_at) W)) 1 0
 issuers_are ks sg s z e W X p h =
-    ap (λ (l : List ℕ). get_or l p 0) e ∙ set_at_law (issuers (tree_in sg s max_depth first_node_at) (world_by ks)) (zeros 255) p
+    ap (λ (l : List ℕ). get_or l p 0) e ∙ marked_at (issuers (tree_in sg s max_depth first_node_at) (world_by ks)) (zeros 255) p
     (rw (length-replicate {A = ℕ} 255 0) h)
     ∙ ap₂ (λ (b : Bool) (x : ℕ). cond b 1 x)
     (ap (λ (n : Node). member p (issuers n (world_by ks))) (tree_is X s max_depth first_node_at)
     ∙ issuers_same (world_by ks) W (same_principals W.constants ks X.kinds) p (node_at W.verbs s max_depth first_node_at))
-    (zeros_at 255 p)
+    (get_or-replicate 255 p 0 0 h)

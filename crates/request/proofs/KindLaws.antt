@@ -1,4 +1,4 @@
--- In a safe request every variable that is used has a place in a fact, T_true its cell stands for its kind.
+-- In a safe request every variable that is used has a place in a fact, and its cell stands for its kind.
 use mathlib.Core.Path.{◌≡◌, refl, sym, ◌∙◌, ap, subst}
 use mathlib.Core.Logic.{◌⊎◌, inl, inr, ⊎_elim}
 use mathlib.Core.Bool.{Bool, true, false, cond, not}
@@ -9,7 +9,7 @@ use mathlib.Core.List.{List, [], ◌∷◌, ◌++◌, Memᴰ}
 use Prim.Native.Nat.{ℕ, ◌≤◌}
 use native.Mathlib.Omega.{arith}
 use lib.ListN.{length}
-use lib.Dec.{T, eqb, eqb→eq, eqb_refl}
+use lib.Dec.{T, T_not, eqb, eqb→eq, eqb_refl}
 use Rattle.model.specs.Limits.{principal}
 use Rattle.model.specs.Lists.{member, among, without}
 use Rattle.model.specs.Syntax.{Expr, con, var, today, Fact, flat, can_say, Verb, Node, Nodes, says, test, all_of, any_of, non, exists, end, more, vars_of}
@@ -151,11 +151,7 @@ module _ (vs : List Verb) where
   the_same us ws e = cc
 
   unknown : (v : ℕ) (us : List ℕ) → T (not (member v us)) → Memᴰ v us → ⊥
-  unknown v us t m = no (member v us) t (member_in m)
-    where
-      no : (b : Bool) → T (not b) → T b → ⊥
-      no true t u = t
-      no false t u = u
+  unknown v us t m = T_not (member v us) t (member_in m)
 
   says_covered : (e : Expr) (f : Fact Expr) → Arity vs f → (us : List ℕ) → Covered us ((principal, e) ∷ places vs f) (vars_of e ++ vars_in f)
   says_covered e f a us v m = inr (⊎_elim (head_in v principal e (places vs f)) (λ n. let r = fact_in_law v f a n in (r.0, Memᴰ.tail r.1))

@@ -17,7 +17,7 @@ use nodes::walk::Visit;
 use phrases::Text;
 use phrases::marks::with_mark;
 
-// A set of constants: 1 for each that is in it.
+// A set of constants: 1 for each that is in it. Numbers and no bools, as the marks of variables (`phrases::marks`): the definitions have them so.
 pub type Marks = [u8; CONSTANTS];
 
 // "all the policy's principals join"

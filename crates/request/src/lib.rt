@@ -61,7 +61,8 @@ fn whole(kinds: &[u8], tree: &Tree) -> Result<Request, Refusal>
     ensures { result ≡ whole_in kinds.now tree.now.text.signatures.now tree.now.text.bytes.now }
 {
     let s = tree.text.bytes;
-    if s.len() < FIRST_NODE || limits::LAST_DAY < wire::u32_at(s, HEADER) {
+    let today = wire::u32_or(s, HEADER);
+    if s.len() < FIRST_NODE || limits::LAST_DAY < today {
         return Err(Reason::Form.at(HEADER));
     }
     let from = Reached {
@@ -69,20 +70,18 @@ fn whole(kinds: &[u8], tree: &Tree) -> Result<Request, Refusal>
         cells: kinds::nothing(),
     };
     let node = tree.node(kinds, DEPTH, from)?;
+    // No `slices::ended`: that promises the number of a reason, and here the refusal itself is promised.
     if node.at != s.len() {
         return Err(Reason::Form.at(node.at));
     }
     let judged = safety::judge(tree, WHOLE).ok_or(Reason::UnsafeRequest.at(FIRST_NODE))?;
     let kinds = kinds_in(node.cells, judged.used);
     let free = judged.free;
-    Ok(Request {
-        today: wire::u32_or(s, HEADER),
-        kinds,
-        free,
-    })
+    Ok(Request { today, kinds, free })
 }
 
 // The request s under a policy with the kinds ks of its constants and the rows sg of its verbs (crate phrases, specs/Tables).
+#[tactic(auto, using(crate::proofs::RequestLaws::header_refused, crate::proofs::RequestLaws::header_right))]
 pub fn read(ks: &[u8], sg: &[u8], s: &[u8]) -> Result<Request, Refusal>
     ensures meant { (cs : List Constant) (vs : List Verb) → Tables cs vs ks.now sg.now
         → said result ≡ answered vs (read_request cs vs s.now) }
@@ -98,6 +97,7 @@ pub fn read(ks: &[u8], sg: &[u8], s: &[u8]) -> Result<Request, Refusal>
 
 // "every issuer in the request's says nodes": 1 for each of the 255 possible constants that is one. A variable brings in all principals.
 #[inline(never)]
+#[tactic(auto, using(crate::proofs::IssuerLaws::issuers_are))]
 pub fn issuers(ks: &[u8], sg: &[u8], s: &[u8]) -> [u8; limits::CONSTANTS]
     requires { length s.now ≤ longest }
     ensures { (W : World) → Tables W.constants W.verbs ks.now sg.now → (p : ℕ) → p < 255

@@ -26,7 +26,7 @@ use Rattle.rules.specs.Proper.{Below, SmallFact}
 use Rattle.rules.specs.Families.{ordered_of, other_gives, thirds_of, seconds_of, firsts_of, covers_of}
 use Rattle.rules.proofs.ExtendFacts.{In}
 use Rattle.rules.proofs.RoundLaw.{Given}
-use Rattle.rules.proofs.Good.{Good, good}
+use Rattle.rules.proofs.Good.{Good, good, below_at}
 use Rattle.rules.proofs.UseFacts.{Here, now_good, same_places}
 use Rattle.rules.proofs.FamilyFacts.{ordered_of_law, ordered_self, ordered_in_law}
 
@@ -56,11 +56,6 @@ params_few (suc n) (can_say s d f) h = params_few n f h
 params_small : (f : Fact ℕ) → SmallFact f → Below (params_in f)
 params_small (flat s v ps) h = h.2
 params_small (can_say s d f) h = params_small f h.2
-
-small_at : (l : List ℕ) → Below l → (k : ℕ) → get_or l k 0 < 255
-small_at [] b k = omega arith
-small_at (x ∷ l) b zero = b.0
-small_at (x ∷ l) b (suc k) = small_at l b.1 k
 
 module _ {H : List Link} where
   covers_by : (f : Fact ℕ) {qs : List ℕ} → Replaced H (verb_in f) 1 true (params_in f) qs → Covers H f (with_params qs f)
@@ -222,7 +217,7 @@ module _ {W : World} {𝒜 : List Assertion} {n round : ℕ} (E : Here W 𝒜 n 
 
     small : (j : ℕ) → get_or ps j 0 < 255
     unfolding g
-    small = small_at ps (params_small f g.small.2)
+    small = below_at ps (params_small f g.small.2)
 
     abbrev family : ℕ → ℕ → List ℕ
     family position j = ordered_of H v position (get_or ps j 0)

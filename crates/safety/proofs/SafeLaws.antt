@@ -1,22 +1,21 @@
 -- Safety on marks is the model's safety on lists, where the variables are among the eight.
 use mathlib.Core.Path.{◌≡◌, refl, sym, ◌∙◌, ap, ap₂}
 use mathlib.Core.Logic.{⊎_elim}
-use mathlib.Core.Bool.{Bool, true, false, cond, ◌&&◌, ◌||◌, not, or_assoc, or_comm, and-false}
+use mathlib.Core.Bool.{Bool, true, false, cond, ◌&&◌, ◌||◌, not, or_comm, and-false}
 use mathlib.Core.Option as option
 use mathlib.Core.Option.{Option, some}
 use mathlib.Core.List.Memᴰ
 use mathlib.Core.List.{List, [], ◌∷◌, ◌++◌, Memᴰ}
 use Prim.Native.Nat.{ℕ, ◌<◌}
 use native.Mathlib.Omega.{arith}
-use lib.ListN.{length, get_or, set}
+use lib.ListN.{get_or, set}
 use lib.Seq.{ext_get_or}
 use lib.Dec.{eqb}
 use Rattle.model.specs.Lists.{all, keep, member, among, without, apart}
 use Rattle.model.specs.Syntax.{flat, can_say, Node, Nodes, says, test, all_of, any_of, non, exists, end, more, vars_of, vars_in, vars_test}
 use Rattle.model.specs.Requests.{free, free_all}
 use Rattle.model.specs.Safety.{provided, onward, known, known_all, known_any, binders, binders_all, is_safe, safe_request}
-use Rattle.model.specs.Bytes.{choose}
-use Rattle.model.proofs.ListFacts.{keep_of}
+use Rattle.model.proofs.ListFacts.{keep_of, member_append}
 use Rattle.model.proofs.BindingFacts.{at_variable}
 use Rattle.phrases.specs.Marks.{none, marked, meet}
 use Rattle.phrases.proofs.Sets.{marked_append, marked_length, marked_at, within_is, meet_is, drop_is, mark_is}
@@ -27,19 +26,11 @@ use Rattle.safety.specs.declared.Judged.{Judged}
 
 -- ---- marks
 
-pub set_at_law : (xs m : List ℕ) (v : ℕ) → v < length m → get_or (marked xs m) v 0 ≡ cond (member v xs) 1 (get_or m v 0)
-unfolding choose
-set_at_law xs m v h = marked_at xs m v h ∙ either (member v xs) 1 (get_or m v 0)
-  where
-    either : (b : Bool) (x y : ℕ) → choose b x y ≡ cond b x y
-    either true x y = refl
-    either false x y = refl
-
 none_at : (v : ℕ) → v < 8 → get_or none v 0 ≡ 0
 none_at v h = at_variable (λ _. 0) v h
 
 pub mark_at : (xs : List ℕ) (v : ℕ) → v < 8 → get_or (marked xs none) v 0 ≡ cond (member v xs) 1 0
-mark_at xs v h = set_at_law xs none v h ∙ ap (cond (member v xs) 1) (none_at v h)
+mark_at xs v h = marked_at xs none v h ∙ ap (cond (member v xs) 1) (none_at v h)
 
 zero_test : (b : Bool) → eqb (cond b 1 0) 0 ≡ not b
 zero_test true = refl
@@ -53,10 +44,6 @@ pub same_marks : (xs ys : List ℕ) → ((v : ℕ) → member v xs ≡ member v 
 same_marks xs ys e =
     ext_get_or 0 (marked xs none) (marked ys none) (marked_length xs none ∙ sym (marked_length ys none))
     (λ v h. let l : v < 8 = omega (arith, marked_length xs none) in mark_at xs v l ∙ ap (λ (b : Bool). cond b 1 0) (e v) ∙ sym (mark_at ys v l))
-
-pub member_append : (v : ℕ) (xs ys : List ℕ) → member v (xs ++ ys) ≡ (member v xs || member v ys)
-member_append v [] ys = refl
-member_append v (x ∷ xs) ys = ap (λ (b : Bool). eqb v x || b) (member_append v xs ys) ∙ sym (or_assoc (eqb v x) (member v xs) (member v ys))
 
 pub swap : (xs ys : List ℕ) → marked (xs ++ ys) none ≡ marked (ys ++ xs) none
 swap xs ys = same_marks (xs ++ ys) (ys ++ xs) (λ v. member_append v xs ys ∙ or_comm (member v xs) (member v ys) ∙ sym (member_append v ys xs))

@@ -1,7 +1,7 @@
-// Safe requests. A set of variables is eight marks; where a node is not safe, None is known after it.
+// Safe requests. A set of variables is eight marks (`phrases::marks` says why they are numbers); where a node is not safe, None is known after it.
 #![tactic(auto)]
 
-ghost use Rattle.std.specs.Prelude.{◌≡◌, ◌+◌, ◌≤◌, ◌<◌, option_and_then};
+ghost use Rattle.std.specs.Prelude.{◌≡◌, ◌+◌, ◌≤◌, ◌<◌};
 ghost use Rattle.model.specs.Syntax.{vars_test};
 ghost use Rattle.model.specs.Requests.{free};
 ghost use Rattle.model.specs.Readings.{expr_at, constraint_at};
@@ -15,7 +15,7 @@ use limits::VARIABLES;
 use nodes::shape::{Place, Shape};
 use nodes::tree::Tree;
 use phrases::Text;
-use phrases::marks::{self, Marks};
+use phrases::marks::{self, Marks, NONE};
 
 mod variables;
 
@@ -25,9 +25,6 @@ pub struct Judged {
     pub free: Marks,
     pub used: Marks,
 }
-
-// No variable.
-const NONE: Marks = [0; VARIABLES];
 
 // ---- known variables; a tree, a node and a set are no struct here, since each call has another node and another set
 
@@ -73,11 +70,7 @@ fn turned(m: Marks, v: usize, x: u8) -> Option<Marks>
     requires { x ≤ 1 }
     ensures { result ≡ turned x v m }
 {
-    if marks::mark_of(m, v) == x {
-        Some(marks::with_mark(m, v, 1 - x))
-    } else {
-        None
-    }
+    (marks::mark_of(m, v) == x).then_some(marks::with_mark(m, v, 1 - x))
 }
 
 // What is known after the node at a place, if it is safe where m is known before.
@@ -88,11 +81,11 @@ fn known_node(tree: &Tree, place: Place, m: Marks) -> Option<Marks>
     ensures { result ≡ known_in (tree_in tree.now.text.signatures.now tree.now.text.bytes.now place.depth place.at) m }
 {
     let Place { depth, at } = place;
-    if depth == 0 || tree.text.bytes.len() <= at {
+    let Some(shape) = tree.shape_in(place) else {
         return Some(m);
-    }
+    };
     let depth = depth - 1;
-    match tree.shape_at(at) {
+    match shape {
         Shape::Says => says_known(tree.text, at, m),
         Shape::Test => test_known(tree.text, at, m),
         Shape::All => {
@@ -118,7 +111,6 @@ fn known_node(tree: &Tree, place: Place, m: Marks) -> Option<Marks>
                 None
             }
         }
-        Shape::Nothing => Some(m),
     }
 }
 
@@ -139,7 +131,7 @@ fn known_all(tree: &Tree, n: usize, place: Place, m: Marks) -> Option<Marks>
 }
 
 // "any-of starts each part alike and keeps the intersection": n parts, the first at the place.
-// No loop: a part is met with what those after it leave.
+// No loop: the definitions meet a part with what those after it leave, and a loop from the first part on needs that `meet` is associative.
 #[cycle(known_all_known_any_known_node)]
 #[tactic(auto, using(crate::proofs::KnownSteps::known_steps))]
 fn known_any(tree: &Tree, n: usize, place: Place, m: Marks) -> Option<Marks>

@@ -7,12 +7,12 @@ ghost use Rattle.nodes.specs.Tree.{tree_in};
 ghost use Rattle.safety.specs.Walks.{free_steps, binders_steps};
 ghost use Rattle.safety.specs.Safety.{taken};
 
-use super::{NONE, turned};
+use super::turned;
 use nodes::shape::Place;
 use nodes::tree::Tree;
 use nodes::walk::Visit;
 use phrases::Text;
-use phrases::marks::{self, Marks};
+use phrases::marks::{self, Marks, NONE};
 
 // Marks the free variables.
 struct FreeVariables;

@@ -8,6 +8,9 @@ ghost use Rattle.slices.specs.Lists.{items_by, list_by, headed_at, only_list_by}
 use super::{Reason, Refusal, count_right, ended, length_right, version_there};
 use limits::HEADER;
 
+// Where the first item stands in a slice that begins with a list: behind the 2-byte count.
+pub const FIRST_ITEM: usize = HEADER + 2;
+
 // What reads the items of a list.
 pub trait Reader {
     // what the item at an offset gives

@@ -25,13 +25,10 @@ impl Side {
     pub fn says<T>(self, read: Result<T, Refusal>) -> Result<T, Refused>
         ensures { result ≡ on_side self read }
     {
-        match read {
-            Ok(x) => Ok(x),
-            Err(refusal) => Err(Refused {
-                side: self,
-                refusal,
-            }),
-        }
+        read.map_err(|refusal| Refused {
+            side: self,
+            refusal,
+        })
     }
 
     pub fn number(self) -> u8

@@ -5,4 +5,11 @@ pub mod ProperRequests
 pub mod BoundVariables
 pub mod Grounded
 pub mod FreeVariables
+pub mod Rounds
+pub mod Outcome
+pub mod Added
+pub mod Growing
+pub mod Bindings
+pub mod Withdrawn
+pub mod Hierarchy
 pub mod Theorems

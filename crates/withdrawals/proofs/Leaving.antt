@@ -2,42 +2,21 @@
 use mathlib.Core.Path.{◌≡◌, refl, sym, ap, ap₂, ◌∙◌}
 use mathlib.Core.Bool.{Bool, true, false, ◌&&◌, not}
 use mathlib.Core.List.{List, [], ◌∷◌}
-use Prim.Native.Nat.{ℕ, ◌+◌, ◌-◌, ◌*◌, ◌≤◌, ◌<◌}
+use Prim.Native.Nat.{ℕ, ◌+◌, ◌-◌}
 use lib.Dec.{eqb, ltb}
 use lib.ListN.{length, take}
 use lib.Seq.{take-length}
 use borrow.Author.Tests.{eqb-true, eq-eqb, ne_eqb}
 use Rattle.model.proofs.Tests.{and_true}
 use Rattle.model.specs.Limits.{first_variable, today_code}
-use Rattle.model.specs.Lists.{all, keep}
+use Rattle.model.specs.Lists.{keep}
 use Rattle.model.specs.Syntax.{con, var, today, World}
 use Rattle.model.specs.Bytes.{u16_at, u32_at, choose}
-use Rattle.model.specs.Values.{passes}
-use Rattle.model.specs.Readings.{expr_of, constraint_at, constraints_at}
-use Rattle.model.specs.Withdrawals.{is_constant, no_binding}
+use Rattle.model.specs.Readings.{expr_of}
+use Rattle.model.specs.Withdrawals.{is_constant}
 use Rattle.model.specs.Entries.{withdrawal_at}
-use Rattle.phrases.proofs.Laws.{left, done, next as next_at}
 use Rattle.slices.specs.Items.{items_at}
 use Rattle.withdrawals.specs.Left.{entries_at, named, stays_at}
-
--- ---- constraints
-
-module _ (W : World) (s : List ℕ) (n i p : ℕ) where
-  pub hold_more : i < n → passes W no_binding (constraint_at s (p + 5 * i)) ≡ true
-      → all (passes W no_binding) (constraints_at (n - i) s (p + 5 * i)) ≡ all (passes W no_binding) (constraints_at (n - (i + 1)) s (p + 5 * (i + 1)))
-  unfolding constraints_at
-  hold_more h e = rw (left n i h, e, next_at p 5 i)
-
-  pub hold_stop : i < n → passes W no_binding (constraint_at s (p + 5 * i)) ≡ false
-      → all (passes W no_binding) (constraints_at (n - i) s (p + 5 * i)) ≡ false
-  unfolding constraints_at
-  hold_stop h e = rw (left n i h, e)
-
-  pub hold_none : n ≤ i → all (passes W no_binding) (constraints_at (n - i) s (p + 5 * i)) ≡ true
-  unfolding constraints_at
-  hold_none h = rw (done n i h)
-
-pub ruleset holding_tests = (hold_more, hold_stop, hold_none)
 
 -- ---- an entry for an issuer and a serial
 

@@ -1,30 +1,28 @@
 -- The definitions of the reader, one step on, as the code takes them.
-use mathlib.Core.Path.{◌≡◌, refl}
-use mathlib.Core.Bool.{Bool, true, false}
+use mathlib.Core.Path.{◌≡◌, refl, ap, ◌∙◌}
+use mathlib.Core.Bool.{Bool, true, false, ◌&&◌}
 use mathlib.Core.List.{List}
-use Prim.Native.Nat.{ℕ, ◌+◌, ◌-◌, ◌*◌, ◌≤◌, ◌<◌}
+use Prim.Native.Nat.{ℕ, zero, suc, ◌+◌, ◌*◌, ◌≤◌}
+use Rattle.std.specs.List.{list_all, range_with_len}
 use native.Mathlib.Omega.{arith}
 use lib.ListN.{length}
 use borrow.Author.Tests.{ltb-false}
 use Rattle.model.specs.Bytes.{choose}
 use Rattle.model.specs.Entries.{withdrawal_end, withdrawal_form}
-use Rattle.phrases.proofs.Laws.{left, done, next}
 use Rattle.withdrawals.specs.Reading.{test_closed, tests_closed}
 
 -- ---- constraints without variables
 
-module _ (s : List ℕ) (n i p : ℕ) where
-  pub closed_more : i < n → test_closed s (p + 5 * i) ≡ true → tests_closed (n - i) s (p + 5 * i) ≡ tests_closed (n - (i + 1)) s (p + 5 * (i + 1))
-  unfolding tests_closed
-  closed_more h e = rw (left n i h, e, next p 5 i)
-
-  pub closed_stop : i < n → test_closed s (p + 5 * i) ≡ false → tests_closed (n - i) s (p + 5 * i) ≡ false
-  unfolding tests_closed
-  closed_stop h e = rw (left n i h, e)
-
-  pub closed_none : n ≤ i → tests_closed (n - i) s (p + 5 * i) ≡ true
-  unfolding tests_closed
-  closed_none h = rw (done n i h)
+-- none of n from p on has any, each by its number
+pub closed_each : (s : List ℕ) (n p : ℕ) → list_all (λ (i : ℕ). test_closed s (p + 5 * i)) (range_with_len 0 n) ≡ tests_closed n s p
+unfolding tests_closed
+closed_each s n p = go n 0 ∙ ap (tests_closed n s) (let e : p + 5 * 0 ≡ p = omega arith in e)
+  where
+    go : (n i : ℕ) → list_all (λ (i : ℕ). test_closed s (p + 5 * i)) (range_with_len i n) ≡ tests_closed n s (p + 5 * i)
+    go zero i = refl
+    go (suc n) i =
+        let e : p + 5 * (i + 1) ≡ p + 5 * i + 5 = omega arith in
+        ap (λ (b : Bool). test_closed s (p + 5 * i) && b) (go n (i + 1) ∙ ap (tests_closed n s) e)
 
 -- where an entry ends: by the end of the bytes
 yes_second : (a b : Bool) → choose a false b ≡ true → (a ≡ false) × (b ≡ true)

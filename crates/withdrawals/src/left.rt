@@ -1,23 +1,24 @@
 // Which assertions are left: those that no entry removes.
-ghost use Rattle.std.specs.Prelude.{◌≡◌, ◌&&◌, not, ◌+◌, ◌-◌, ◌*◌, ◌<◌, ◌≤◌, length, take, replicate, eqb, ltb};
+ghost use Rattle.std.specs.Prelude.{◌≡◌, ◌&&◌, not, ◌+◌, ◌-◌, ◌*◌, ◌<◌, ◌≤◌, length, take, eqb, ltb};
 ghost use Rattle.model.specs.Lists.{any, keep};
 ghost use Rattle.model.specs.Limits.{today_code, first_variable};
 ghost use Rattle.wire.specs.Budget.{farthest};
 ghost use Rattle.constraints.specs.Standing.{world_of};
 ghost use Rattle.model.specs.Entries.{withdrawal_at};
 ghost use Rattle.withdrawals.specs.Left.{named, entries_at, stays_at, Lent};
-ghost use Rattle.withdrawals.specs.Sought.{holds_at, holding_at, named_at, unnamed_at, Within, buckets, bucket_of, bucket_at, Linked};
+ghost use Rattle.withdrawals.specs.Sought.{holds_at, holding_at, named_at, unnamed_at, Within, buckets, bucket_of, bucket_at};
 
 use super::chained::Chained;
 use super::entry::Entry;
-use super::{FIRST, SERIAL, TESTS};
+use super::{SERIAL, TESTS};
 use constraints::{NOTHING_BOUND, Values};
-
-// The serial of an assertion stands behind the 2-byte length of its item.
-const ITEM_SERIAL: usize = 2;
+use slices::lists::FIRST_ITEM;
 
 // Into how many chains entries are put: about one entry a chain where there are most.
 const BUCKETS: usize = 256;
+
+// A link for each bucket and entry, and one for "none".
+const LINKS: usize = BUCKETS + limits::WITHDRAWALS + 1;
 
 // The number of an expression is that of a constant.
 fn is_constant(x: usize) -> bool
@@ -34,6 +35,14 @@ fn bucket(issuer: usize, serial: usize) -> usize
     fact::spread(issuer, serial, 0, 0, BUCKETS)
 }
 
+// The bucket of the entry at `at`.
+fn bucket_at(s: &[u8], at: usize) -> usize
+    requires { at + 2048 ≤ farthest }
+    ensures { (result ≡ bucket_at s.now at) × (result < buckets) }
+{
+    bucket(wire::u16_or(s, at), wire::u32_or(s, at + SERIAL))
+}
+
 impl Entry<'_> {
     // It is for this issuer and serial.
     #[tactic(auto, using(crate::proofs::Leaving::names_is))]
@@ -45,36 +54,23 @@ impl Entry<'_> {
     }
 
     // Its constraints hold: "while its constraints hold".
-    #[tactic(auto, using(crate::proofs::Leaving::holding_tests), unfolding(model::specs::Entries::withdrawal_at))]
     fn holds(&self, values: &Values) -> bool
         ensures { result ≡ holds_at (world_of values.now) self.now.bytes.now self.now.at }
     {
-        for i in 0..self.count() {
+        (0..self.count()).all(|i| {
             let at = self.at + TESTS + phrases::CONSTRAINT * i;
-            if !values.passes(self.bytes, at, NOTHING_BOUND) {
-                return false;
-            }
-        }
-        true
-    }
-
-    fn bucket(&self) -> usize
-        ensures { (result ≡ bucket_at self.now.bytes.now self.now.at) × (result < buckets) }
-    {
-        bucket(
-            wire::u16_or(self.bytes, self.at),
-            wire::u32_or(self.bytes, self.at + SERIAL),
-        )
+            values.passes(self.bytes, at, NOTHING_BOUND)
+        })
     }
 }
 
-// Where those of the first `count` entries stand that remove anything, and how many they are.
+// Where those of the first `count` entries stand that remove anything, and how many they are: the room is fixed, as there is no heap.
 #[tactic(auto, using(crate::proofs::Holding::holding_start, crate::proofs::Holding::holding_end))]
 fn holding(ats: &mut [usize], values: &Values, s: &[u8], count: usize) -> usize
     requires { (count ≤ 256) × (length ats.old ≡ 256) }
     ensures { Within (take result ats.new) × (result ≤ 256) × (take result ats.new ≡ holding_at (world_of values.now) s.now count 7) }
 {
-    let mut at = FIRST;
+    let mut at = FIRST_ITEM;
     let mut k = 0;
     for _ in 0..count {
         let entry = Entry { bytes: s, at };
@@ -85,20 +81,6 @@ fn holding(ats: &mut [usize], values: &Values, s: &[u8], count: usize) -> usize
         at = entry.end();
     }
     k
-}
-
-// Chains the entries at these offsets.
-fn link(links: &mut [u16], s: &[u8], ats: &[usize])
-    requires { (links.old ≡ replicate 513 0) × Within ats.now }
-    ensures { Linked s.now ats.now links.new }
-{
-    for i in 0..ats.len() {
-        let entry = Entry {
-            bytes: s,
-            at: ats[i],
-        };
-        chains::add(links, BUCKETS, i, entry.bucket());
-    }
 }
 
 impl Chained<'_> {
@@ -126,7 +108,7 @@ impl Chained<'_> {
         ensures { result ≡ unnamed_at self.now.bytes.now self.now.ats.now policy.now (issuer - 6) issuer }
     {
         let item = issuer.saturating_sub(assertions::ISSUER);
-        let serial = wire::u32_or(policy, item + ITEM_SERIAL);
+        let serial = wire::u32_or(policy, item + assertions::SERIAL);
         !self.is_named(wire::u16_or(policy, issuer), serial)
     }
 }
@@ -146,9 +128,8 @@ pub fn left(issuers: &mut [usize], values: &Values, s: &[u8], entries: usize) ->
     let mut room = [0usize; limits::WITHDRAWALS];
     let n = holding(&mut room, values, s, entries);
     let ats = &room[..n];
-    // the buckets, and the links of entries 0 to 256
-    let mut links = [0u16; 513];
-    link(&mut links, s, ats);
+    let mut links = [0u16; LINKS];
+    chains::link(&mut links, BUCKETS, ats.len(), |i| bucket_at(s, ats[i]));
     let chained = Chained {
         bytes: s,
         ats,

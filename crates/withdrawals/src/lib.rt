@@ -11,11 +11,11 @@ ghost use Rattle.kinds.specs.Cells.{feed, nothing};
 ghost use Rattle.phrases.specs.Tables.{Tables};
 ghost use Rattle.slices.specs.Steps.{step_of};
 ghost use Rattle.slices.specs.Lists.{count_of};
-ghost use Rattle.withdrawals.specs.Reading.{closed_expr, test_closed, tests_closed, closed_at, entry_asks, entry_by};
+ghost use Rattle.withdrawals.specs.Reading.{closed_expr, closed_at, entry_asks, entry_by};
 
 use entry::Entry;
 use kinds::{Cells, Term};
-use limits::{HEADER, Kind};
+use limits::Kind;
 use phrases::Text;
 use slices::lists::{self, Reader};
 use slices::{Reason, Refusal};
@@ -30,9 +30,6 @@ const SERIAL: usize = 2;
 const COUNT: usize = 6;
 
 const TESTS: usize = 7;
-
-// The entries stand behind their 2-byte count.
-const FIRST: usize = HEADER + 2;
 
 // ---- form
 
@@ -89,21 +86,15 @@ fn closed(s: &[u8], p: usize) -> bool
 
 impl Entry<'_> {
     // None of its expressions is one.
-    #[tactic(auto, using(crate::proofs::Steps::closed_more, crate::proofs::Steps::closed_stop, crate::proofs::Steps::closed_none))]
     fn closed(&self) -> bool
         ensures { result ≡ closed_at self.now.bytes.now self.now.at }
     {
         let s = self.bytes;
-        if !closed(s, self.at) {
-            return false;
-        }
-        for i in 0..self.count() {
-            let p = self.at + TESTS + phrases::CONSTRAINT * i;
-            if !closed(s, p + 1) || !closed(s, p + 3) {
-                return false;
-            }
-        }
-        true
+        closed(s, self.at)
+            && (0..self.count()).all(|i| {
+                let p = self.at + TESTS + phrases::CONSTRAINT * i;
+                closed(s, p + 1) && closed(s, p + 3)
+            })
     }
 
     // The kinds, if some choice of them fits: the issuer is a principal, and then the constraints.

@@ -1,9 +1,12 @@
-use Rattle.std.proofs.Common.{arith, rules}
-use Rattle.std.proofs.lemmas.List.Edits.{map_over_more}
+use Rattle.std.proofs.Common.{◌≡◌, length, rules, of_calls, subst, sym}
+use Rattle.std.specs.Array.{IsMapOf}
+use Rattle.kinds.specs.declared.Cell.TheVariants.{Leads}
 use Rattle.kinds.specs.Cells.{renamed}
+use Rattle.kinds.proofs.Maps.{map_is}
 use Rattle.kinds.proofs.relabel.Goals as goal
 
-pub loop-c-preserved : goal.loop-c-preserved
-loop-c-preserved c =
-    let s = c.loop-c in
-    rw c.renamed.ensures (map_over_more (renamed c.args.a c.args.b) c.args.t s.c-items s.c-index _ (omega arith) s.invariant (search rules))
+pub returns : goal.returns
+returns c =
+    let long : length c.args.t ≡ 8 = search rules in
+    map_is _ (renamed c.args.a c.args.b) (Leads 0) (Leads 0) c.args.t c.map.result _ (λ x y q k. search (rules, of_calls))
+    (subst (IsMapOf _ _ _ _) (sym long) c.map.ensures.items)

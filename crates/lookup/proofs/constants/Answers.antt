@@ -1,5 +1,5 @@
 -- The first numbers of the index that was handed out are the model's offsets, and fit 32 bits.
-use Rattle.std.proofs.Common.{sym, ap, ◌∙◌, length, arith}
+use Rattle.std.proofs.Common.{sym, ap, ◌∙◌, length, length-take, arith}
 use Rattle.demands.specs.Lookups.{laid}
 use Rattle.lookup.proofs.Laws.{nothing_laid}
 use Rattle.lookup.proofs.Accepted.{constants_laid, none_refused}
@@ -9,17 +9,14 @@ pub shared_ref_as_front-lay : goal.shared_ref_as_front-lay
 shared_ref_as_front-lay c = (constants_laid c.args.policy.now c.in-Ok.x c.in-Ok.ensures (λ i. omega (arith, c.type_inv.policy i))).few
 
 pub lay-requires : goal.lay-requires
-lay-requires c = (constants_laid c.args.policy.now c.in-Ok.x c.in-Ok.ensures (λ i. omega (arith, c.type_inv.policy i))).near
-
-pub overflow_cast-result : goal.overflow_cast-result
-overflow_cast-result c =
+lay-requires c =
     let known = constants_laid c.args.policy.now c.in-Ok.x c.in-Ok.ensures (λ i. omega (arith, c.type_inv.policy i)) in
-    record { fits = omega (arith, known.few) }
+    (known.near, omega (arith, known.few, length-take c.in-Ok.x.constants c.in-Ok.x.constant_at))
 
 pub returns-in-Ok : goal.returns-in-Ok
 returns-in-Ok c =
     let known = constants_laid c.args.policy.now c.in-Ok.x c.in-Ok.ensures (λ i. omega (arith, c.type_inv.policy i)) in
-    record { count = known.counted; written = c.lay.ensures ∙ ap (λ l. laid l c.args.offsets.now) known.front }
+    record { count = c.lay.ensures.count ∙ ap length known.front; written = c.lay.ensures.written ∙ ap (λ l. laid l c.args.offsets.now) known.front }
 
 pub returns-in-Err : goal.returns-in-Err
 returns-in-Err c =

@@ -10,8 +10,8 @@ returns-then-not-has_label c = no_number_law c.args.policy.now c.args.kind c.arg
 pub shared_ref_as_front-first : goal.shared_ref_as_front-first
 shared_ref_as_front-first c = (constants_laid c.args.policy.now c.in-Ok.x c.in-Ok.ensures (λ i. omega (arith, c.type_inv.policy i))).few
 
-pub first-found-requires : goal.first-found-requires
-first-found-requires c =
+pub first-requires : goal.first-requires
+first-requires c =
     let known = constants_laid c.args.policy.now c.in-Ok.x c.in-Ok.ensures (λ i. omega (arith, c.type_inv.policy i)) in (
       omega (arith, known.few, length-take c.in-Ok.x.constants c.in-Ok.x.constant_at),
       constants_stand c.args.policy.now c.in-Ok.x c.in-Ok.ensures (λ i. omega (arith, c.type_inv.policy i)),
@@ -24,13 +24,13 @@ overflow_cast-result c =
 
 pub returns-in-Some : goal.returns-in-Some
 returns-in-Some c =
-    ap number_or (sym c.in-Some.is) ∙ c.first-found.ensures.is
+    ap number_or (sym c.in-Some.is) ∙ c.first.ensures.is
     ∙ number_is c.args.policy.now c.in-Ok.x c.in-Ok.ensures (λ i. omega (arith, c.type_inv.policy i)) c.args.kind c.args.label.now
     (sym c.has_label.ensures ∙ c.if-not-has_label.false)
 
 pub returns-in-None : goal.returns-in-None
 returns-in-None c =
-    ap number_or (sym c.in-None.is) ∙ c.first-found.ensures.is
+    ap number_or (sym c.in-None.is) ∙ c.first.ensures.is
     ∙ number_is c.args.policy.now c.in-Ok.x c.in-Ok.ensures (λ i. omega (arith, c.type_inv.policy i)) c.args.kind c.args.label.now
     (sym c.has_label.ensures ∙ c.if-not-has_label.false)
 

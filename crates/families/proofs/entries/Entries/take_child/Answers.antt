@@ -8,19 +8,19 @@ use Rattle.families.proofs.Uniting.{adds_none, adds_same}
 use Rattle.families.proofs.entries.Entries.take_child.Goals as goal
 
 -- the entry has the parent
-pub returns-then-is_in : goal.returns-then-is_in
-returns-then-is_in c e =
+pub returns-in_ok-take_in : goal.returns-in_ok-take_in
+returns-in_ok-take_in c =
     let a = c.args in
     let x = a.self.now.families.now in
     let child = c.child.result in
-    let is = child_yes x a.self.now.count a.key a.parent a.e (sym c.is_in.ensures ∙ c.if-is_in.true) ∙ ap (λ (d : ℕ). d ∷ []) (sym c.child.ensures.0) in
+    let is = child_yes x a.self.now.count a.key a.parent a.e (sym c.is_in.ensures ∙ c.if-is_in.true) ∙ ap (λ (d : ℕ). d ∷ []) (sym c.child.ensures) in
     adds_same a.marks.now _ (family_in x a.self.now.count a.key child)
     (each (child_in x a.key a.parent a.e) (family_in x a.self.now.count a.key))
-    (ap (λ (l : List ℕ). each l (family_in x a.self.now.count a.key)) is ∙ append-nil (family_in x a.self.now.count a.key child)) (c.take_in.ensures e)
+    (ap (λ (l : List ℕ). each l (family_in x a.self.now.count a.key)) is ∙ append-nil (family_in x a.self.now.count a.key child)) c.in_ok-take_in.ensures
 
 -- it has another
 pub returns-else-is_in : goal.returns-else-is_in
-returns-else-is_in c e =
+returns-else-is_in c =
     let a = c.args in
     let x = a.self.now.families.now in
     adds_none a.marks.now (each (child_in x a.key a.parent a.e) (family_in x a.self.now.count a.key))

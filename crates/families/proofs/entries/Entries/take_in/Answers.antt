@@ -10,9 +10,9 @@ use Rattle.families.proofs.entries.Entries.take_in.Goals as goal
 
 -- alone
 pub returns-in-None : goal.returns-in-None
-returns-in-None c e =
+returns-in-None c =
     let a = c.args in
-    adds_one a.marks.now a.d (family_in a.self.now.families.now a.self.now.count a.key a.d) (omega (arith, c.requires.2))
+    adds_one a.marks.now a.d (family_in a.self.now.families.now a.self.now.count a.key a.d) (omega (arith, c.ranges.d.fits))
     (family_alone (links_in a.self.now.families.now a.self.now.count) (a.key / 4) (a.key % 4) a.d
     (owner_none a.self.now.families.now a.self.now.count a.key a.d (sym c.in-None.ensures)))
 
@@ -28,7 +28,7 @@ mark_set-requires c =
 
 -- it has the family
 pub returns-else-i-k : goal.returns-else-i-k
-returns-else-i-k c e =
+returns-else-i-k c =
     let a = c.args in
     let k = c.in-Some.i in
     adds_set a.marks.now _ a.self.now.families.now (set_at a.self.now.count k) (family_in a.self.now.families.now a.self.now.count a.key a.d)

@@ -1,4 +1,6 @@
 use Rattle.std.proofs.Common.{◌-◌, ap, ◌∙◌, arith}
+use lib.ListN.{replicate}
+use Rattle.model.proofs.ByteFacts.{zeros}
 use Rattle.families.specs.Kin.{child_in}
 use Rattle.families.proofs.Children.{left, left_all, left_some, left_next, under_within}
 use Rattle.families.proofs.Uniting.{uniting_start, uniting_went, uniting_done}
@@ -11,7 +13,7 @@ loop-i-init c =
     let x = s.families.now in
     let u = c.into_iter-i-iterator.ensures.into_iter_gives ∙ c.under-i-items.ensures in (
       under_within x s.count c.args.key c.args.parent s.entered u,
-      uniting_start x s.count c.args.key c.args.parent c.args.marks.now (omega (arith, c.requires.2)) c.requires.3 _
+      uniting_start x s.count c.args.key c.args.parent (replicate 256 0) (omega (arith, c.requires.2)) (zeros 256) _
           (left_all x s.count c.args.key c.args.parent s.entered u),
     )
 
@@ -32,12 +34,12 @@ loop-i-preserved c =
     let a = c.args in (
       (left_some x s.count a.key a.parent c.loop-i.invariant.0 c.in-Some.ensures.steps).2,
       uniting_went x s.count a.key a.parent c.loop-i.marks _ _ (child_in x a.key a.parent (c.in-Some.i - 1)) (left x s.count a.key a.parent c.next.new.self)
-          (left_next x s.count a.key a.parent c.in-Some.ensures.steps) c.loop-i.invariant.1 (c.take_child.ensures c.if-not-take_child.false),
+          (left_next x s.count a.key a.parent c.in-Some.ensures.steps) c.loop-i.invariant.1 c.in_ok-take_child.ensures,
     )
 
 -- none is left
 pub returns : goal.returns
-returns c e =
+returns c =
     let s = c.args.self.now in
     let a = c.args in
     uniting_done s.families.now s.count a.key a.parent s.entered c.requires.2 c.loop-i.marks _

@@ -11,7 +11,7 @@ unfolding join_all
 returns-then-is_in c =
     let a = c.args in
     let x = a.entries.now.families.now in
-    rw (child_yes x 0 a.key a.parent a.k (sym c.is_in.ensures ∙ c.if-is_in.true), ← c.child.ensures.0) c.join.ensures
+    rw (child_yes x 0 a.key a.parent a.k (sym c.is_in.ensures ∙ c.if-is_in.true), ← c.child.ensures) c.join.ensures
 
 -- it has another
 pub returns-else-is_in : goal.returns-else-is_in
