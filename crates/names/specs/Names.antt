@@ -1,8 +1,15 @@
 -- A list of names by offsets: the form of each (3), and whether one is alike to an earlier one (4).
-use Rattle.std.specs.Prelude.{ℕ, zero, suc, ◌+◌, List, [], ◌∷◌, ◌++◌, Bool, if◌then◌else◌}
+use Rattle.std.specs.Prelude.{ℕ, zero, suc, ◌+◌, List, [], ◌∷◌, ◌++◌, Bool, if◌then◌else◌, Result, Ok, Err}
 use Rattle.model.specs.Lists.{any}
 use Rattle.model.specs.Bytes.{u16_at}
 use Rattle.slices.specs.Steps.{Step, Next, Refused, then_step, count_right}
+use Rattle.slices.specs.declared.Refusal.{Refusal}
+use Rattle.names.specs.declared.named.Placed.{Placed}
+
+-- where a name ends, or why it is refused
+abbrev pub end_of : Result Placed Refusal → Result ℕ Refusal
+end_of (Ok x) = Ok x.end
+end_of (Err e) = Err e
 
 module _ (form : ℕ → Bool) (alike : ℕ → ℕ → Bool) (next : ℕ → ℕ) where
   -- the name at an offset, after those that stand at these

@@ -1,6 +1,6 @@
 // A list of names, whatever they are: the form of each (3), and whether one is alike to an earlier one (4). The names before one are listed by
 // where they stand, and those that fall into one bucket are chained, so that only these are compared.
-ghost use Rattle.std.specs.Prelude.{◌≡◌, ◌≢◌, true, false, [], List, ℕ, Bool, ◌+◌, ◌<◌, ◌≤◌, length};
+ghost use Rattle.std.specs.Prelude.{◌≡◌, ◌≢◌, true, false, [], List, ℕ, Bool, ◌+◌, ◌<◌, ◌≤◌, length, IfOk};
 ghost use Rattle.wire.specs.Budget.{farthest};
 ghost use Rattle.model.specs.Bytes.{byte_at};
 ghost use Rattle.model.specs.Lists.{any};
@@ -8,7 +8,7 @@ ghost use Rattle.model.specs.Readings.{item_end};
 ghost use Rattle.slices.specs.Steps.{step_of};
 ghost use Rattle.labels.specs.Hash.{buckets};
 ghost use Rattle.chains.specs.Offsets.{ChainedBy};
-ghost use Rattle.names.specs.Names.{name_by, names_by, name_list};
+ghost use Rattle.names.specs.Names.{end_of, name_by, names_by, name_list};
 ghost use Rattle.names.specs.Seeking.{Listed};
 
 use slices::{Reason, Refusal};
@@ -42,13 +42,21 @@ pub trait Named {
         ensures alone { (p : ℕ) → bucket_at s.now p ≢ bucket_at s.now at → alike_at s.now at p ≡ false };
 }
 
-// One of the names that stand at `ats` is alike to that at q, which stands after them.
+// Where a name ends, and its bucket, by which it is sought and then listed.
+#[derive(Clone, Copy)]
+struct Placed {
+    end: usize,
+    bucket: usize,
+}
+
+// One of the names that stand at `ats` is alike to that at q, which stands after them and falls into bucket b: none of another bucket is.
 #[tactic(auto, using(chains::proofs::Offsets::looking))]
-fn seen<N: Named>(s: &[u8], q: usize, ats: &[usize], links: &[u16]) -> bool
-    requires { (N.form_at s.now q ≡ true) × Listed s.now (N.bucket_at s.now) ats.now links.now q }
+fn seen<N: Named>(s: &[u8], q: usize, b: usize, ats: &[usize], links: &[u16]) -> bool
+    requires { (N.form_at s.now q ≡ true) × Listed s.now (N.bucket_at s.now) ats.now links.now q × (b < buckets)
+        × ((p : ℕ) → N.bucket_at s.now p ≢ b → N.alike_at s.now q p ≡ false) }
     ensures { result ≡ any (N.alike_at s.now q) ats.now }
 {
-    for i in chains::bucket(links, labels::BUCKETS, N::bucket(s, q)) {
+    for i in chains::bucket(links, labels::BUCKETS, b) {
         if N::alike(s, q, ats[i - 1]) {
             return true;
         }
@@ -58,17 +66,22 @@ fn seen<N: Named>(s: &[u8], q: usize, ats: &[usize], links: &[u16]) -> bool
 
 // The name at `at`, after those that stand at `ats`.
 #[tactic(auto, using(slices::proofs::ListFacts::item_end_law), unfolding(crate::specs::Names::name_by))]
-fn name<N: Named>(s: &[u8], at: usize, ats: &[usize], links: &[u16]) -> Result<usize, Refusal>
+fn name<N: Named>(s: &[u8], at: usize, ats: &[usize], links: &[u16]) -> Result<Placed, Refusal>
     requires { Listed s.now (N.bucket_at s.now) ats.now links.now at }
-    ensures { step_of result ≡ name_by (N.form_at s.now) (N.alike_at s.now) (item_end s.now) ats.now at }
+    ensures step { step_of (end_of result) ≡ name_by (N.form_at s.now) (N.alike_at s.now) (item_end s.now) ats.now at }
+    ensures bucket { IfOk result (λ x. (x.bucket ≡ N.bucket_at s.now at) × (x.bucket < buckets)) }
 {
     if !N::form(s, at) {
         return Err(Reason::Form.at(at));
     }
-    if seen::<N>(s, at, ats, links) {
+    let bucket = N::bucket(s, at);
+    if seen::<N>(s, at, bucket, ats, links) {
         return Err(Reason::Repeated.at(at));
     }
-    Ok(at + 1 + wire::byte(s, at))
+    Ok(Placed {
+        end: at + 1 + wire::byte(s, at),
+        bucket,
+    })
 }
 
 // n names from `from` on, which are listed in their turn.
@@ -85,10 +98,10 @@ fn names<N: Named>(
 {
     let mut at = from;
     for k in 0..n {
-        let end = name::<N>(s, at, &ats[..k], links)?;
+        let placed = name::<N>(s, at, &ats[..k], links)?;
         ats[k] = at;
-        chains::add(links, labels::BUCKETS, k, N::bucket(s, at));
-        at = end;
+        chains::add(links, labels::BUCKETS, k, placed.bucket);
+        at = placed.end;
     }
     Ok(at)
 }
