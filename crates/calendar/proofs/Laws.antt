@@ -9,8 +9,8 @@ use lib.Dec.{eqb}
 use borrow.Author.Tests.{eq-eqb, ne_eqb, lt-ltb, le-ltb}
 use Rattle.model.specs.Calendar.{leap_year, year_days, month_days, Date, date, date_of, days_of_years, days_of_months, day_of, one_year_after, year_after}
 use Rattle.model.specs.Years.{IsDate}
-use Rattle.model.proofs.CalendarFacts.{months, twelve, forth}
-use Rattle.model.proofs.DaysOfYear.{both, more, base, late, before, year_days_law}
+use Rattle.model.proofs.CalendarFacts.{months, days_between, twelve, forth}
+use Rattle.model.proofs.DaysOfYear.{more, base, late, before, year_days_law}
 use Rattle.model.proofs.Years.{dates_are_days, same_date}
 
 -- ---- the first hundred years: each fourth has 366 days
@@ -123,20 +123,7 @@ year_found n h = go (4 * n / 1461) (omega arith) (omega arith) (omega arith) (�
 
 -- the day of a month is below 32
 pub days_most : (y m : ℕ) → 1 ≤ m → m ≤ 12 → month_days y m ≤ 31
-days_most y = months (λ (m : ℕ). month_days y m ≤ 31) (
-  omega arith,
-  both (λ (b : Bool). cond b 29 28 ≤ 31) (omega arith) (omega arith) (leap_year y),
-  omega arith,
-  omega arith,
-  omega arith,
-  omega arith,
-  omega arith,
-  omega arith,
-  omega arith,
-  omega arith,
-  omega arith,
-  omega arith,
-)
+days_most y m a z = (days_between y m a z).1
 
 -- what the code finds is the date of the day
 pub found : (n y m o : ℕ) → 2000 ≤ y → n ≡ days_of_years (y - 2000) + o → 1 ≤ m → m ≤ 12 → days_of_months y (m - 1) ≤ o → o < days_of_months y m

@@ -26,45 +26,51 @@ fn mark(reach: &[u8], marks: &mut [u8])
 // All slices are accepted.
 fn mark_reach(
     policy: &[u8],
-    x: &Index,
+    index: &Index,
     request: &[u8],
-    h: Handed,
+    handed: Handed,
     withdrawals: &[u8],
     marks: &mut [u8],
 )
-    requires { (A : Accepted) × (q : syntax.Request) × (ws : List syntax.Withdrawal) × Takes policy.now request.now x.now h.request A q
-        × Withdraws withdrawals.now h.withdrawals A ws }
+    requires { (A : Accepted) × (q : syntax.Request) × (ws : List syntax.Withdrawal) × Takes policy.now request.now index.now handed.request A q
+        × Withdraws withdrawals.now handed.withdrawals A ws }
     ensures { (A : Accepted) (q : syntax.Request) (ws : List syntax.Withdrawal) (H : List syntax.Link)
-        → Takes policy.now request.now x.now h.request A q → Withdraws withdrawals.now h.withdrawals A ws
+        → Takes policy.now request.now index.now handed.request A q → Withdraws withdrawals.now handed.withdrawals A ws
         → marks.new ≡ marks_from (reach_of (read (policy_of A) q ws H)) (length marks.old) 0 }
 {
-    let mut left = x.issuer_at;
-    let n = super::left(&mut left, policy, x, h, withdrawals);
-    let reach = super::reached(policy, x, &left[..n], request);
+    let mut left = index.issuer_at;
+    let n = super::left(&mut left, policy, index, handed, withdrawals);
+    let reach = super::reached(policy, index, &left[..n], request);
     mark(&reach, marks);
 }
 
 // The policy is accepted.
 pub fn accepted(
     policy: &[u8],
-    x: &Index,
+    index: &Index,
     request: &[u8],
     withdrawals: &[u8],
     hierarchy: &[u8],
     marks: &mut [u8],
 ) -> Report
-    requires { HandsOut policy.now x.now }
+    requires { HandsOut policy.now index.now }
     ensures numbers { result
         ≡ refusal_of (whose_words (slices policy.now request.now withdrawals.now hierarchy.now)
         marks.old) }
     ensures marks { marks.new
         ≡ (whose_words (slices policy.now request.now withdrawals.now hierarchy.now) marks.old).marks }
 {
-    match inputs::read(&x.kinds, &x.signatures, request, withdrawals, hierarchy) {
-        Ok(h) => {
-            mark_reach(policy, x, request, h, withdrawals, marks);
+    match inputs::read(
+        &index.kinds,
+        &index.signatures,
+        request,
+        withdrawals,
+        hierarchy,
+    ) {
+        Ok(handed) => {
+            mark_reach(policy, index, request, handed, withdrawals, marks);
             Report::default()
         }
-        Err(r) => numbers::refused(r.side, r.refusal),
+        Err(refused) => numbers::refused(refused.side, refused.refusal),
     }
 }

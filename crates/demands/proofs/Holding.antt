@@ -17,21 +17,22 @@ use Rattle.model.specs.Requests.{issuers, free_kinds}
 use Rattle.model.specs.Records.{Entry, key, key_of, record_of, records_of, answer_of, answers_bytes}
 use Rattle.model.specs.Meant.{AtMost, Distinct, Ascends, Enumerates, itself}
 use Rattle.model.specs.Rounds.{last_round}
-use Rattle.model.specs.Steps.{eq_said, step}
 use Rattle.model.specs.Deciding.{counted_in}
 use Rattle.model.specs.Withdrawals.{left_in}
 use Rattle.model.proofs.WithdrawalFacts.{counted_in_law}
 use Rattle.model.specs.Decision.{Slices, Lent, Verdict, allow, deny, report, capacity, room, at_front}
 use Rattle.model.specs.Inputs.{Inputs, DerivableIn, EntryIn, AnswerIn, InReach, answer_in}
+use Rattle.model.proofs.ShapeFacts.{key_length, shaped}
 use Rattle.model.proofs.Order.{before_irrefl, ascends_distinct}
+use Rattle.model.proofs.ClosureFacts.{first→derives}
 use Rattle.model.proofs.RoundFacts as S
 use Rattle.model.proofs.BindingFacts.{bindings_of_law}
-use Rattle.model.proofs.StepFacts.{eq_said_of, eq_said_refl, step_of, step_in}
+use Rattle.model.proofs.StepFacts.{steps_computed}
 use Rattle.model.proofs.DecisionFacts.{slice_by_slice_law, get_d_in, in_get_d}
 use Rattle.theorems.proofs.Theorems.{computed_reach}
 use Rattle.demands.specs.Demands.{record_in, TableOf, AnswersOf}
 use Rattle.demands.proofs.Blocks.{block_at, blocks_length, filled_is, ascends_at}
-use Rattle.demands.proofs.RecordLength.{key_length, shaped, policy_formed}
+use Rattle.demands.proofs.RecordLength.{policy_formed}
 
 -- the statements of an ascending table are distinct
 abbrev statement : Entry → Said
@@ -73,10 +74,10 @@ module _ (R : Read) where
   𝒜 = counted_in R
 
   pub entry_derives : (r : ℕ) (x : Said) → EntryIn R (r, x) → DerivableIn R x
-  entry_derives r x f = S.first→derives eq_said (step W 𝒜) (Rule W 𝒜) eq_said_of eq_said_refl (step_of W 𝒜) (step_in W 𝒜) r x f
+  entry_derives = first→derives (Rule W 𝒜)
 
   pub first_round_law : (n : ℕ) (x : Said) → Within (Rule W 𝒜) n x → (r : ℕ) × EntryIn R (r, x)
-  first_round_law n x w = let f = S.first eq_said (step W 𝒜) (Rule W 𝒜) eq_said_of eq_said_refl (step_of W 𝒜) (step_in W 𝒜) n x w in (suc f.0, f.2)
+  first_round_law n x w = let f = S.first (steps_computed W 𝒜) n x w in (suc f.0, f.2)
 
   -- ---- a table within its capacity
 

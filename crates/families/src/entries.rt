@@ -61,9 +61,9 @@ impl Entries<'_> {
     }
 
     // No entry stands in the bucket of this verb, position and constant: the constant has no children.
-    pub fn childless(&self, key: u16, c: u16) -> bool
-        ensures { result ≡ true → children_in self.now.families.now self.now.count key c ≡ [] }
+    pub fn childless(&self, key: u16, constant: u16) -> bool
+        ensures { result ≡ true → children_in self.now.families.now self.now.count key constant ≡ [] }
     {
-        self.under(key, c).next().is_none()
+        self.under(key, constant).next().is_none()
     }
 }

@@ -18,14 +18,14 @@ pub struct Family {
 impl Family {
     ghost use Rattle.families.specs.Members.{members_of};
 
-    // c alone.
-    pub fn of(c: u8) -> Family
-        ensures { members_of result ≡ c ∷ [] }
+    // One member alone.
+    pub fn of(member: u8) -> Family
+        ensures { members_of result ≡ member ∷ [] }
     {
         let mut members = [0u8; BYTES];
         let mut marks = [0u8; BYTES];
-        members[0] = c;
-        marks[c as usize] = 1;
+        members[0] = member;
+        marks[member as usize] = 1;
         Family {
             members,
             marks,
@@ -34,12 +34,12 @@ impl Family {
     }
 
     // One more at the end, unless it is there.
-    pub fn join(&mut self, d: u8)
-        ensures { members_of self.new ≡ joined (members_of self.old) d }
+    pub fn join(&mut self, member: u8)
+        ensures { members_of self.new ≡ joined (members_of self.old) member }
     {
-        let at = d as usize;
+        let at = member as usize;
         if self.marks[at] == 0 && self.count < MOST {
-            self.members[self.count] = d;
+            self.members[self.count] = member;
             self.marks[at] = 1;
             self.count += 1;
         }

@@ -21,13 +21,13 @@ pub fn set_at(entries: usize, k: usize) -> usize
 
 // That the sets behind entry k's are found is how far the work is, and no fact about the entries, so each function asks it.
 impl Entries<'_> {
-    // Marks the family of d, if it is found already: where the sets behind that of entry k are, or d has no children.
-    fn take_in(&self, k: usize, key: u16, d: u8, marks: &mut [u8; BYTES]) -> Option<()>
+    // Marks the family of a child, if it is found already: where the sets behind that of entry k are, or the child has no children itself.
+    fn take_in(&self, k: usize, key: u16, child: u8, marks: &mut [u8; BYTES]) -> Option<()>
         requires { FoundFrom self.now.families.now self.now.count (k + 1) × (k < self.now.count) }
-        ensures { IfSome result (λ _. Adds marks.old marks.new (family_in self.now.families.now self.now.count key d)) }
+        ensures { IfSome result (λ _. Adds marks.old marks.new (family_in self.now.families.now self.now.count key child)) }
     {
-        match self.owner(key, d as u16) {
-            None => marks[d as usize] = 1,
+        match self.owner(key, child as u16) {
+            None => marks[child as usize] = 1,
             Some(i) => {
                 if i <= k {
                     return None;
@@ -38,21 +38,21 @@ impl Entries<'_> {
         Some(())
     }
 
-    // The same for the child of entry e, if the entry has this parent.
+    // The same for the child of an entry, if the entry has this parent.
     fn take_child(
         &self,
         k: usize,
         key: u16,
         parent: u16,
-        e: usize,
+        entry: usize,
         marks: &mut [u8; BYTES],
     ) -> Option<()>
-        requires { FoundFrom self.now.families.now self.now.count (k + 1) × (k < self.now.count) × (e < self.now.count) }
+        requires { FoundFrom self.now.families.now self.now.count (k + 1) × (k < self.now.count) × (entry < self.now.count) }
         ensures { IfSome result (λ _. Adds marks.old marks.new
-            (each (child_in self.now.families.now key parent e) (family_in self.now.families.now self.now.count key))) }
+            (each (child_in self.now.families.now key parent entry) (family_in self.now.families.now self.now.count key))) }
     {
-        if self.is_in(e, key, parent) {
-            self.take_in(k, key, self.child(e), marks)?;
+        if self.is_in(entry, key, parent) {
+            self.take_in(k, key, self.child(entry), marks)?;
         }
         Some(())
     }

@@ -23,11 +23,11 @@ fn lay_one(families: &mut [u16], hierarchy: &[u8], entries: usize, k: usize)
     requires { LaidTo families.old entries k hierarchy.now × Fitting (entry_at hierarchy.now k) × (k < entries) × (entries ≤ max_links) }
     ensures { LaidTo families.new entries (k + 1) hierarchy.now }
 {
-    let e = hierarchy::entry_at(hierarchy, k);
-    let key = POSITIONS * e.verb + e.position;
-    write(families, k, key, e.parent, e.child);
-    let b = bucket(key, e.parent);
-    chains::add(&mut families[ENTRY * entries..], BUCKETS, k, b);
+    let entry = hierarchy::entry_at(hierarchy, k);
+    let key = POSITIONS * entry.verb + entry.position;
+    write(families, k, key, entry.parent, entry.child);
+    let bucket = bucket(key, entry.parent);
+    chains::add(&mut families[ENTRY * entries..], BUCKETS, k, bucket);
 }
 
 // Lays out the entries, in the order in which they stand in the hierarchy.

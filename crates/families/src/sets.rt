@@ -20,11 +20,11 @@ fn pack(marks: &[u8; BYTES], at: usize) -> u16
     requires { at + wide ≤ bytes }
     ensures { result ≡ packed marks.now at wide }
 {
-    let mut w = 0;
+    let mut number = 0;
     for i in (at..at + WIDE).rev() {
-        w = 2 * w + bit(marks, i);
+        number = 2 * number + bit(marks, i);
     }
-    w
+    number
 }
 
 // Writes the set of those that are marked.
@@ -37,13 +37,14 @@ pub fn write_set(families: &mut [u16], at: usize, marks: &[u8; BYTES])
     }
 }
 
-// Writes d behind n members, if the lowest mark of w is set. The count stands beside the array, here and below: the rest is what is written into.
-fn put_lowest(members: &mut [u8; BYTES], n: usize, d: usize, w: u16) -> usize
-    requires { (n < bytes) × (d < bytes) }
-    ensures { (result ≤ n + 1) × (take result members.new ≡ take n members.old ++ only (eqb (w % 2) 1) d) }
+// Writes a member behind n others, if the lowest mark of the number is set. The count stands beside the array, here and below: the rest is what is written
+// into.
+fn put_lowest(members: &mut [u8; BYTES], n: usize, member: usize, number: u16) -> usize
+    requires { (n < bytes) × (member < bytes) }
+    ensures { (result ≤ n + 1) × (take result members.new ≡ take n members.old ++ only (eqb (number % 2) 1) member) }
 {
-    if w % 2 == 1 {
-        members[n] = d as u8;
+    if number % 2 == 1 {
+        members[n] = member as u8;
         n + 1
     } else {
         n
@@ -57,13 +58,13 @@ fn unpack(members: &mut [u8; BYTES], count: usize, at: usize, marks: u16) -> usi
     ensures { (result ≤ at + wide) × (take result members.new ≡ take count members.old ++ marked wide at marks) }
 {
     let mut n = count;
-    let mut w = marks;
-    for d in at..at + WIDE {
-        if w == 0 {
+    let mut rest = marks;
+    for member in at..at + WIDE {
+        if rest == 0 {
             return n;
         }
-        n = put_lowest(members, n, d, w);
-        w /= 2;
+        n = put_lowest(members, n, member, rest);
+        rest /= 2;
     }
     n
 }
@@ -81,29 +82,29 @@ pub fn list(families: &[u16], at: usize, members: &mut [u8; BYTES]) -> usize
     n
 }
 
-// Marks d, if the lowest mark of w is set.
+// Marks a member, if the lowest mark of the number is set.
 #[tactic(auto, using(crate::proofs::Uniting::adds_one))]
-fn mark_lowest(marks: &mut [u8; BYTES], d: usize, w: u16)
-    requires { d < bytes }
-    ensures { Adds marks.old marks.new (only (eqb (w % 2) 1) d) }
+fn mark_lowest(marks: &mut [u8; BYTES], member: usize, number: u16)
+    requires { member < bytes }
+    ensures { Adds marks.old marks.new (only (eqb (number % 2) 1) member) }
 {
-    if w % 2 == 1 {
-        marks[d] = 1;
+    if number % 2 == 1 {
+        marks[member] = 1;
     }
 }
 
 // Marks those that are marked in a number, from `at` on. Like `unpack`: one loop for both, over a trait of what becomes of a mark, is longer than the two.
-fn mark_number(marks: &mut [u8; BYTES], at: usize, x: u16)
+fn mark_number(marks: &mut [u8; BYTES], at: usize, number: u16)
     requires { (at + wide ≤ bytes) }
-    ensures { Adds marks.old marks.new (marked wide at x) }
+    ensures { Adds marks.old marks.new (marked wide at number) }
 {
-    let mut w = x;
-    for d in at..at + WIDE {
-        if w == 0 {
+    let mut rest = number;
+    for member in at..at + WIDE {
+        if rest == 0 {
             return;
         }
-        mark_lowest(marks, d, w);
-        w /= 2;
+        mark_lowest(marks, member, rest);
+        rest /= 2;
     }
 }
 

@@ -29,12 +29,12 @@ impl Family {
 }
 
 impl Entries<'_> {
-    // Finds the family of c, for a verb and position, member by member: each has a bucket of its own, so each of the at most 1,024 entries is looked at once at
-    // most.
-    pub fn family(&self, key: u16, c: u8) -> Family
-        ensures { members_of result ≡ family_in self.now.families.now self.now.count key c }
+    // Finds the family of a constant, for a verb and position, member by member: each has a bucket of its own, so each of the at most 1,024 entries is looked
+    // at once at most.
+    pub fn family(&self, key: u16, constant: u8) -> Family
+        ensures { members_of result ≡ family_in self.now.families.now self.now.count key constant }
     {
-        let mut family = Family::of(c);
+        let mut family = Family::of(constant);
         let mut k = 0;
         // the members that a turn adds get turns of their own: no range is known before
         while k < family.count {

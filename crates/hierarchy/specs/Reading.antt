@@ -1,30 +1,31 @@
--- The hierarchy as the code reads it, by the tables of the constants' kinds and the verbs' signatures.
-use Rattle.std.specs.Prelude.{ℕ, ◌+◌, ◌*◌, List, Bool, ◌&&◌, not, length, ◌==◌, nat_lt, if◌then◌else◌}
+-- An entry of the hierarchy as the code reads it from the bytes that begin with it, by the tables of the constants' kinds and the verbs' signatures.
+use Rattle.std.specs.Prelude.{ℕ, ◌+◌, ◌*◌, List, Bool, ◌&&◌, not, length, ◌==◌, nat_lt, if◌then◌else◌, Result, Ok, Err}
 use Rattle.model.specs.Limits.{link_bytes}
 use Rattle.model.specs.Bytes.{byte_at, u16_at}
-use Rattle.slices.specs.Steps.{Step, Next, Refused}
+use Rattle.slices.specs.declared.Reason.{Reason}
+use Rattle.slices.specs.declared.Reason.TheVariants.{Form, Unfit, OwnPart}
 
 -- the verb is not 0, and has a parameter at the position
-abbrev pub arity_is : List ℕ → List ℕ → ℕ → Bool
-arity_is sg s at = not (byte_at s at == 0) && not (byte_at s (at + 1) == 0) && nat_lt (byte_at s (at + 1)) (byte_at sg (4 * byte_at s at))
+abbrev pub arity_is : List ℕ → List ℕ → Bool
+arity_is sg s = not (byte_at s 0 == 0) && not (byte_at s 1 == 0) && nat_lt (byte_at s 1) (byte_at sg (4 * byte_at s 0))
 
 module _ (ks sg s : List ℕ) where
   -- the kind of the parameter at the position
-  abbrev pub kind_here : ℕ → ℕ
-  kind_here at = byte_at sg (4 * byte_at s at + byte_at s (at + 1))
+  abbrev pub kind_here : ℕ
+  kind_here = byte_at sg (4 * byte_at s 0 + byte_at s 1)
 
-  abbrev pub kinds_are : ℕ → Bool
-  kinds_are at = byte_at ks (u16_at s (at + 2)) == kind_here at && byte_at ks (u16_at s (at + 4)) == kind_here at
+  abbrev pub kinds_are : Bool
+  kinds_are = byte_at ks (u16_at s 2) == kind_here && byte_at ks (u16_at s 4) == kind_here
 
-  abbrev pub fits_by : ℕ → Bool
-  fits_by at = arity_is sg s at && kinds_are at
+  abbrev pub fits_by : Bool
+  fits_by = arity_is sg s && kinds_are
 
-  -- an entry that is there: its verb is, then all of it is, then it fits, and then its parts are apart
-  unfoldable pub entry_by : ℕ → Step
-  entry_by at =
-      if nat_lt (length s) (at + 1) then Refused 3 at
-      else (if byte_at sg (4 * byte_at s at) == 0 then Refused 5 at
-      else (if nat_lt (length s) (at + link_bytes) then Refused 3 at
-      else (if not (fits_by at) then Refused 5 at
-      else (if u16_at s (at + 2) == u16_at s (at + 4) then Refused 11 at
-      else Next (at + link_bytes)))))
+  -- how many bytes it has: its verb is there, then all of it is, then it fits, and then its parts are apart
+  unfoldable pub check_by : Result ℕ Reason
+  check_by =
+      if length s == 0 then Err Form
+      else (if byte_at sg (4 * byte_at s 0) == 0 then Err Unfit
+      else (if nat_lt (length s) link_bytes then Err Form
+      else (if not fits_by then Err Unfit
+      else (if u16_at s 2 == u16_at s 4 then Err OwnPart
+      else Ok link_bytes))))

@@ -10,13 +10,15 @@ ghost use Rattle.phrases.specs.Tables.{Tables};
 ghost use Rattle.slices.specs.Steps.{step_of};
 ghost use Rattle.slices.specs.Lists.{count_of};
 ghost use Rattle.hierarchy.specs.Links.{entry_at, told};
-ghost use Rattle.hierarchy.specs.Reading.{fits_by, entry_by};
+ghost use Rattle.hierarchy.specs.Reading.{fits_by, check_by};
 
 use phrases::ROW;
 use slices::lists::{self, Reader};
 use slices::{Reason, Refusal};
 
-// Where parts of an entry stand, from its verb on, and how many bytes it has.
+// Where parts of an entry stand, and how many bytes it has.
+const VERB: usize = 0;
+
 const POSITION: usize = 1;
 
 const PARENT: usize = 2;
@@ -25,6 +27,50 @@ const CHILD: usize = 4;
 
 const ENTRY: usize = 6;
 
+// ---- an entry, in whatever slice: `entry` is the bytes that begin with it
+
+// "an entry for verb 0, for a position 0 or past the verb's arity": none of these. And parent and child are constants of the parameter's kind.
+fn fits(kinds: &[u8], signatures: &[u8], entry: &[u8]) -> bool
+    ensures { result ≡ fits_by kinds.now signatures.now entry.now }
+{
+    let verb = wire::byte_or(entry, VERB);
+    let position = wire::byte_or(entry, POSITION);
+    let kind = wire::byte_or(signatures, ROW * verb + position);
+    verb != 0
+        && position != 0
+        && position < wire::byte_or(signatures, ROW * verb)
+        && wire::byte_or(kinds, wire::u16_or(entry, PARENT)) == kind
+        && wire::byte_or(kinds, wire::u16_or(entry, CHILD)) == kind
+}
+
+// How many bytes the entry has, or why it is refused, under a policy with these kinds of its constants and signatures of its verbs (crate phrases,
+// specs/Tables).
+// "A verb number past the verbs ends the reading of its item: it gives 5"; "11, parent equal to child, after 5 in its entry".
+#[tactic(auto, unfolding(crate::specs::Reading::check_by))]
+pub fn check(kinds: &[u8], signatures: &[u8], entry: &[u8]) -> Result<usize, Reason>
+    ensures read { result ≡ check_by kinds.now signatures.now entry.now }
+    ensures within { IfOk result (λ n. n ≤ length entry.now) }
+{
+    if entry.is_empty() {
+        return Err(Reason::Form);
+    }
+    if wire::byte_or(signatures, ROW * wire::byte_or(entry, VERB)) == 0 {
+        return Err(Reason::Unfit);
+    }
+    if entry.len() < ENTRY {
+        return Err(Reason::Form);
+    }
+    if !fits(kinds, signatures, entry) {
+        return Err(Reason::Unfit);
+    }
+    if wire::u16_or(entry, PARENT) == wire::u16_or(entry, CHILD) {
+        return Err(Reason::OwnPart);
+    }
+    Ok(ENTRY)
+}
+
+// ---- the entries
+
 // What entries are read by: the kinds of the policy's constants, and the signatures of its verbs.
 #[derive(Clone, Copy)]
 struct Entries<'a> {
@@ -32,45 +78,11 @@ struct Entries<'a> {
     signatures: &'a [u8],
 }
 
-impl Entries<'_> {
-    // "an entry for verb 0, for a position 0 or past the verb's arity": none of these. And parent and child are constants of the parameter's kind.
-    fn fits(&self, hierarchy: &[u8], at: usize) -> bool
-        requires { at ≤ longest }
-        ensures { result ≡ fits_by self.now.kinds.now self.now.signatures.now hierarchy.now at }
-    {
-        let verb = wire::byte_or(hierarchy, at);
-        let position = wire::byte_or(hierarchy, at + POSITION);
-        let kind = wire::byte_or(self.signatures, ROW * verb + position);
-        verb != 0
-            && position != 0
-            && position < wire::byte_or(self.signatures, ROW * verb)
-            && wire::byte_or(self.kinds, wire::u16_or(hierarchy, at + PARENT)) == kind
-            && wire::byte_or(self.kinds, wire::u16_or(hierarchy, at + CHILD)) == kind
-    }
-}
-
 impl Reader for Entries<'_> {
-    ghost step_at = { λ it s. entry_by it.kinds.now it.signatures.now s };
+    ghost read = { λ it entry. check_by it.kinds.now it.signatures.now entry };
 
-    // "A verb number past the verbs ends the reading of its item: it gives 5"; "11, parent equal to child, after 5 in its entry".
-    #[tactic(auto, unfolding(crate::specs::Reading::entry_by))]
-    fn item(&self, hierarchy: &[u8], at: usize) -> Result<usize, Refusal> {
-        if hierarchy.len() < at + 1 {
-            return Err(Reason::Form.at(at));
-        }
-        if wire::byte_or(self.signatures, ROW * wire::byte_or(hierarchy, at)) == 0 {
-            return Err(Reason::Unfit.at(at));
-        }
-        if hierarchy.len() < at + ENTRY {
-            return Err(Reason::Form.at(at));
-        }
-        if !self.fits(hierarchy, at) {
-            return Err(Reason::Unfit.at(at));
-        }
-        if wire::u16_or(hierarchy, at + PARENT) == wire::u16_or(hierarchy, at + CHILD) {
-            return Err(Reason::OwnPart.at(at));
-        }
-        Ok(at + ENTRY)
+    fn item(&self, bytes: &[u8]) -> Result<usize, Reason> {
+        check(self.kinds, self.signatures, bytes)
     }
 }
 

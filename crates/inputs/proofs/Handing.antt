@@ -5,7 +5,7 @@ use Prim.Native.Nat.{ℕ, ◌≤◌}
 use Rattle.std.specs.Prelude.{Result, Ok, Err}
 use lib.ListN.{length}
 use Rattle.model.specs.Syntax as syntax
-use Rattle.model.specs.Syntax.{Policy, Constant, Verb, Withdrawal, Link}
+use Rattle.model.specs.Syntax.{Policy, Withdrawal, Link}
 use Rattle.model.specs.Bytes.{Reading, got, refused}
 use Rattle.model.specs.Policies.{Accepted, policy_of, read_policy}
 use Rattle.model.specs.Nodes.{read_request}

@@ -31,78 +31,78 @@ pub fn nothing() -> Cells
     [0, 1, 2, 3, 4, 5, 6, 7].map(Cell::Leads)
 }
 
-// A cell c, after a has become b.
-fn renamed(c: Cell, a: Cell, b: Cell) -> Cell
-    ensures { result ≡ renamed a b c }
+// A cell, after `from` has become `to`.
+fn renamed(cell: Cell, from: Cell, to: Cell) -> Cell
+    ensures { result ≡ renamed from to cell }
 {
-    if c == a { b } else { c }
+    if cell == from { to } else { cell }
 }
 
-// Every cell a becomes b.
-fn relabel(t: Cells, a: Cell, b: Cell) -> Cells
-    ensures { result ≡ relabel t a b }
+// Every cell `from` becomes `to`.
+fn relabel(cells: Cells, from: Cell, to: Cell) -> Cells
+    ensures { result ≡ relabel cells from to }
 {
-    t.map(|c| renamed(c, a, b))
+    cells.map(|cell| renamed(cell, from, to))
 }
 
 // The cell of a term.
-fn cell_of(t: Cells, x: Term) -> Option<Cell>
-    ensures { result ≡ cell_of t x }
+fn cell_of(cells: Cells, term: Term) -> Option<Cell>
+    ensures { result ≡ cell_of cells term }
 {
-    match x {
-        Term::Variable(v) => t.get(v).copied(),
+    match term {
+        Term::Variable(v) => cells.get(v).copied(),
         Term::Any(kind) => Some(Cell::Settled(kind)),
     }
 }
 
 // A cell of days or quantities.
-fn is_counted(c: Cell) -> bool
-    ensures { result ≡ is_counted c }
+fn is_counted(cell: Cell) -> bool
+    ensures { result ≡ is_counted cell }
 {
-    match c {
+    match cell {
         Cell::Leads(_) => false,
         Cell::Settled(kind) => matches!(kind, Kind::Day | Kind::Quantity),
         Cell::Counted(_) => true,
     }
 }
 
-// Cells a and b become one. In place, as `alike` is.
+// Two cells become one. In place, as `alike` is.
 #[inline(always)]
-fn merged(t: Cells, a: Cell, b: Cell) -> Option<Cells>
-    ensures { result ≡ merged t a b }
+fn merged(cells: Cells, one: Cell, other: Cell) -> Option<Cells>
+    ensures { result ≡ merged cells one other }
 {
-    match (a, b) {
-        _ if a == b => Some(t),
-        (Cell::Leads(_), _) => Some(relabel(t, a, b)),
-        (_, Cell::Leads(_)) => Some(relabel(t, b, a)),
-        (Cell::Counted(_), _) if is_counted(b) => Some(relabel(t, a, b)),
-        (_, Cell::Counted(_)) if is_counted(a) => Some(relabel(t, b, a)),
+    match (one, other) {
+        _ if one == other => Some(cells),
+        (Cell::Leads(_), _) => Some(relabel(cells, one, other)),
+        (_, Cell::Leads(_)) => Some(relabel(cells, other, one)),
+        (Cell::Counted(_), _) if is_counted(other) => Some(relabel(cells, one, other)),
+        (_, Cell::Counted(_)) if is_counted(one) => Some(relabel(cells, other, one)),
         _ => None,
     }
 }
 
 // A cell becomes one of days or quantities.
-fn counted(t: Cells, a: Cell) -> Option<Cells>
-    ensures { result ≡ counted t a }
+fn counted(cells: Cells, cell: Cell) -> Option<Cells>
+    ensures { result ≡ counted cells cell }
 {
-    match a {
-        Cell::Leads(v) => Some(relabel(t, a, Cell::Counted(v))),
-        _ if is_counted(a) => Some(t),
+    match cell {
+        Cell::Leads(v) => Some(relabel(cells, cell, Cell::Counted(v))),
+        _ if is_counted(cell) => Some(cells),
         _ => None,
     }
 }
 
 // Two terms of one kind. In place, since the reader of a policy calls it for each term, and the cells then stay in registers.
 #[inline(always)]
-pub fn alike(t: Cells, l: Term, r: Term) -> Option<Cells>
-    ensures { result ≡ alike t l r }
+pub fn alike(cells: Cells, left: Term, right: Term) -> Option<Cells>
+    ensures { result ≡ alike cells left right }
 {
-    merged(t, cell_of(t, l)?, cell_of(t, r)?)
+    merged(cells, cell_of(cells, left)?, cell_of(cells, right)?)
 }
 
 // A day or a quantity.
-pub fn numbered(t: Cells, l: Term) -> Option<Cells>
-    ensures { result ≡ numbered t l }
+pub fn numbered(cells: Cells, term: Term) -> Option<Cells>
+    ensures { result ≡ numbered cells term }
 {
-    counted(t, cell_of(t, l)?)
+    counted(cells, cell_of(cells, term)?)
 }

@@ -21,36 +21,36 @@ pub fn has_label(kind: usize) -> bool
 
 // "0x41 to 0x5A are read as 0x61 to 0x7A"
 #[tactic(auto, unfolding(model::specs::Values::lower))]
-fn lower(b: u8) -> u8
-    ensures { result ≡ lower b }
+fn lower(byte: u8) -> u8
+    ensures { result ≡ lower byte }
 {
-    b.to_ascii_lowercase()
+    byte.to_ascii_lowercase()
 }
 
-// The label of n bytes that stands at p of the left slice is alike to that at q of the right one. A byte past the end reads 0.
+// The label of n bytes that stands in `left` at `left_at` is alike to that in `right` at `right_at`. A byte past the end reads 0.
 #[tactic(auto, using(crate::proofs::Laws::alike_same, crate::proofs::Laws::alike_other, crate::proofs::Laws::alike_end))]
-pub fn alike(left: &[u8], p: usize, right: &[u8], q: usize, n: usize) -> bool
-    requires { (p + n ≤ largest) × (q + n ≤ largest) }
-    ensures { result ≡ alike (bytes_at n left.now p) (bytes_at n right.now q) }
+pub fn alike(left: &[u8], left_at: usize, right: &[u8], right_at: usize, n: usize) -> bool
+    requires { (left_at + n ≤ largest) × (right_at + n ≤ largest) }
+    ensures { result ≡ alike (bytes_at n left.now left_at) (bytes_at n right.now right_at) }
 {
     for i in 0..n {
-        if lower(wire::u8_or(left, p + i)) != lower(wire::u8_or(right, q + i)) {
+        if lower(wire::u8_or(left, left_at + i)) != lower(wire::u8_or(right, right_at + i)) {
             return false;
         }
     }
     true
 }
 
-// The bucket of the label of n bytes that stands at p. Labels that are alike fall into one bucket.
+// The bucket of the label of n bytes that stands at `at`. Labels that are alike fall into one bucket.
 #[tactic(auto, using(crate::proofs::Laws::part_taken), unfolding(crate::specs::Hash::hash_of))]
-pub fn hash(s: &[u8], p: usize, n: usize) -> usize
-    requires { p + n ≤ length s.now }
-    ensures { (result ≡ hash_of (bytes_at n s.now p)) × (result < buckets) }
+pub fn hash(bytes: &[u8], at: usize, n: usize) -> usize
+    requires { at + n ≤ length bytes.now }
+    ensures { (result ≡ hash_of (bytes_at n bytes.now at)) × (result < buckets) }
 {
-    let label = &s[p..p + n];
-    let mut h = 0;
-    for b in label {
-        h = (33 * h + usize::from(lower(*b))) % 65536;
+    let label = &bytes[at..at + n];
+    let mut hash = 0;
+    for byte in label {
+        hash = (33 * hash + usize::from(lower(*byte))) % 65536;
     }
-    h % BUCKETS
+    hash % BUCKETS
 }

@@ -1,25 +1,23 @@
 -- An accepted policy: its constants and verbs stand where the reader's index says, at offsets that fit 32 bits.
 use mathlib.Core.Path.{◌≡◌, refl, sym, ap, ap₂, subst, ◌∙◌}
 use mathlib.Core.Logic.{⊎_elim}
-use mathlib.Core.Bool.{Bool, true, false, not, ◌&&◌}
+use mathlib.Core.Bool.{Bool, true, false, ◌&&◌}
 use mathlib.Core.List.Memᴰ
 use mathlib.Core.List.{List, [], ◌∷◌, ◌++◌, Memᴰ}
 use Prim.Native.Nat.{ℕ, zero, suc, ◌+◌, ◌-◌, ◌*◌, ◌≤◌, ◌<◌}
-use native.Mathlib.Decide.{dec_lt}
 use native.Mathlib.Omega.{arith}
-use lib.Dec.{T, eqb, ltb}
+use lib.Dec.{eqb, ltb, nltb→le}
 use lib.ListN.{length, get_or, take, length-map, length-append}
-use borrow.Author.Tests.{lt-ltb, eqb-true}
-use Rattle.model.specs.Limits.{max_constants, max_verbs, policy_versions}
+use borrow.Author.Tests.{eqb-true}
+use Rattle.model.specs.Limits.{max_constants, max_verbs}
 use Rattle.model.specs.Syntax.{Constant, Verb}
 use Rattle.model.specs.Kinds.{no_constant}
 use Rattle.model.specs.Values.{alike}
 use Rattle.model.specs.Bytes.{byte_at, u16_at, bytes_at, choose, Reading, got, refused}
 use Rattle.model.specs.Readings.{item_end, has_label, constant_read_at}
-use Rattle.model.specs.Policies.{Item, contents, offsets, items_from, list_at, constant_item, verb_item, Accepted, assertions_from, verbs_from, constants_from}
-use Rattle.model.specs.Policies.{computed_policy, read_policy}
-use Rattle.model.proofs.ReadFacts.{choose_yes, choose_no, and_then_got, headed_got, ended_got}
-use Rattle.model.proofs.PolicyReader.{policy_is}
+use Rattle.model.specs.Policies.{Item, contents, offsets, items_from, list_at, constant_item, verb_item, Accepted}
+use Rattle.model.specs.Policies.{read_policy}
+use Rattle.model.proofs.ReadFacts.{choose_yes, choose_no, and_then_got, accepted_lists}
 use Rattle.wire.proofs.Reading.{choose_true, choose_false}
 use Rattle.policy.specs.declared.Index.{Index}
 use Rattle.std.specs.Prelude.{Err}
@@ -67,16 +65,9 @@ module _ {A : Type 0} (f : List A → ℕ → Reading A) (P : ℕ → A → Type
       let a = choose_no _ _ 3 p js e r in
       let b = choose_no _ _ 3 p js e a.1 in
       let c = choose_no (ltb highest (u16_at s p)) _ 3 p js e b.1 in
-      let h = not_over highest (u16_at s p) c.0 in
+      let h = nltb→le highest (u16_at s p) c.0 in
       let t = items_stand (u16_at s p) [] (p + 2) js e (λ i m. absurd (Memᴰ.not-nil m)) c.1 in
       (t.0, omega (arith, t.1, h), omega (arith, t.2, h))
-    where
-      not_over : (m n : ℕ) → T (not (ltb m n)) → n ≤ m
-      not_over m n t = go (dec_lt m n)
-        where
-          go : Dec (m < n) → n ≤ m
-          go (yes l) = absurd (subst (λ (b : Bool). T (not b)) (lt-ltb m n l) t)
-          go (no l) = omega arith
 
 -- by number
 by_number : {A : Type 0} (Q : Item A → Type 0) (js : List (Item A)) → ((i : Item A) → Memᴰ i js → Q i) → (d : A) (k : ℕ) → k < length js
@@ -126,25 +117,20 @@ module _ (s : List ℕ) (bytes : (i : ℕ) → byte_at s i < 256) where
     few_verbs : length A.verbs ≤ max_verbs
 
   accepted_stand : (A : Accepted) (e : ℕ) → read_policy s ≡ got A e → Stand A
-  unfolding computed_policy constants_from verbs_from assertions_from
   accepted_stand A e h =
-      let r = headed_got policy_versions s _ A e (sym (policy_is s) ∙ h) in
-      let c = and_then_got _ _ A e r in
-      let v = and_then_got _ _ A e c.3 in
-      let a = and_then_got _ _ A e v.3 in
-      let is : record { version = byte_at s 0; constants = c.0; verbs = v.0; assertions = a.0 } ≡ A = ended_got s _ A a.1 e a.3 in
-      let C = list_stands (constant_item s) ConstantAt constant_sound s 1 max_constants 5 c.0 c.1 c.2 in
-      let verbs = list_stands (verb_item s) (λ (at : ℕ) (v : Verb). Unit {0}) verb_sound s 0 max_verbs c.1 v.0 v.1 v.2 in
-      subst Stand is (record {
-        constants = by_number (λ (i : Item Constant). ConstantAt i.at i.of × (i.at < 4294967296)) c.0
+      let L = accepted_lists s A e h in
+      let C = list_stands (constant_item s) ConstantAt constant_sound s 1 max_constants 5 A.constants L.verbs_at L.constants in
+      let verbs = list_stands (verb_item s) (λ (at : ℕ) (v : Verb). Unit {0}) verb_sound s 0 max_verbs L.verbs_at A.verbs L.assertions_at L.verbs in
+      record {
+        constants = by_number (λ (i : Item Constant). ConstantAt i.at i.of × (i.at < 4294967296)) A.constants
             (λ i m. let q = C.0 i m in (q.0, omega (arith, q.1, C.1))) no_constant;
         verbs = λ k l.
-            let w = by_number (λ (i : Item Verb). i.at < 4294967296) v.0 (λ i m. let q = verbs.0 i m in omega (arith, q.1, verbs.1, C.1))
+            let w = by_number (λ (i : Item Verb). i.at < 4294967296) A.verbs (λ i m. let q = verbs.0 i m in omega (arith, q.1, verbs.1, C.1))
             (record { kinds = []; label = [] }) k l in
             omega (arith, w.1, w.2);
         few_constants = C.2;
         few_verbs = verbs.2;
-      })
+      }
 
 -- ---- as the code takes it
 

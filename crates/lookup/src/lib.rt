@@ -32,7 +32,7 @@ pub fn constants(policy: &[u8], offsets: &mut [u32]) -> u32
     ensures written { offsets.new ≡ laid (constant_offsets (read_policy policy.now)) offsets.old }
 {
     match policy::read(policy) {
-        Ok(x) => lay(&x.constant_at[..x.constants], offsets),
+        Ok(index) => lay(&index.constant_at[..index.constants], offsets),
         Err(_) => 0,
     }
 }
@@ -43,7 +43,7 @@ pub fn verbs(policy: &[u8], offsets: &mut [u32]) -> u32
     ensures written { offsets.new ≡ laid (verb_offsets (read_policy policy.now)) offsets.old }
 {
     match policy::read(policy) {
-        Ok(x) => lay(&x.verb_at[..x.verbs], offsets),
+        Ok(index) => lay(&index.verb_at[..index.verbs], offsets),
         Err(_) => 0,
     }
 }
@@ -91,7 +91,13 @@ pub fn find(policy: &[u8], kind: u32, label: &[u8]) -> u32
         return NO_NUMBER;
     }
     match policy::read(policy) {
-        Ok(x) => match first(policy, &x.kinds, &x.constant_at[..x.constants], kind, label) {
+        Ok(index) => match first(
+            policy,
+            &index.kinds,
+            &index.constant_at[..index.constants],
+            kind,
+            label,
+        ) {
             Some(i) => i as u32,
             None => NO_NUMBER,
         },

@@ -1,14 +1,14 @@
 -- The proofs of `specs/Alike.antt`, each under its statement's name in small letters.
 use mathlib.Core.Path.{◌≡◌, refl, sym, ap, ap₂, subst, ◌∙◌}
 use mathlib.Core.Logic.{◌⊎◌, inl, inr}
-use mathlib.Core.Bool.{Bool, true, false, ◌&&◌, not, false≢true}
+use mathlib.Core.Bool.{Bool, true, false, ◌&&◌, false≢true}
 use mathlib.Core.List.{List, [], ◌∷◌, Memᴰ}
 use Prim.Native.Nat.{ℕ, zero, suc, ◌+◌, ◌-◌, ◌≤◌}
 use native.Mathlib.Omega.{arith}
 use lib.ListN.{length, get_or, take, drop}
-use lib.Dec.{T, eqb, ltb, leb}
+use lib.Dec.{T, T_not, eqb, ltb, leb}
 use borrow.Author.Tests.{eq-eqb, leb-true}
-use Rattle.model.specs.Limits.{principal, thing, max_constants, max_verbs, policy_versions, header_bytes}
+use Rattle.model.specs.Limits.{principal, thing, max_constants, max_verbs, header_bytes}
 use Rattle.model.specs.Lists.{any, front}
 use Rattle.model.specs.Syntax.{Constant, Verb, Policy}
 use Rattle.model.specs.Kinds.{no_constant}
@@ -21,14 +21,12 @@ use Rattle.model.specs.Labels.{label_in, label_of}
 use Rattle.model.specs.Readings.{item_end, has_label, constant_read_at}
 use Rattle.model.specs.Forms.{item_there, constant_form}
 use Rattle.model.specs.Policies.{contents, Accepted, policy_of, read_policy, alike_constants, alike_verbs, constant_item, verb_item}
-use Rattle.model.specs.Policies.{assertions_from, verbs_from, constants_from, computed_policy}
 use Rattle.model.specs.Inputs.{ReadAs}
 use Rattle.model.specs.Alike.{OnlyCapitals, AlikeLabels, BeginningLabels, OneConstant, OneLabel, OneVerb, nameless, OwnBytes, Arms}
 use Rattle.model.proofs.Tests.{T_true, true_T, both_of, eqb_turned}
 use Rattle.model.proofs.ListFacts.{and_of, and_in}
-use Rattle.model.proofs.ReadFacts.{choose_yes, choose_no, and_then_got, list_each, headed_got, ended_got}
+use Rattle.model.proofs.ReadFacts.{choose_yes, choose_no, list_each, accepted_lists}
 use Rattle.model.proofs.ByteFacts.{part_is}
-use Rattle.model.proofs.PolicyReader.{policy_is}
 use Rattle.model.proofs.AlikeFacts.{lower_capital, lower_below, lower_above, lowered_once, alike_agree, agree_alike, alike_long, front_of_law, front_in_law}
 use Rattle.model.proofs.AlikeFacts.{mem_at, Apart, list_apart, apart_one}
 
@@ -59,11 +57,7 @@ item_new : {A : Type 0} (form seen : Bool) (v x : A) (at f e : ℕ) → choose f
     → (v ≡ x) × (T seen → ⊥)
 item_new form seen v x at f e h =
     let b = choose_no seen _ 4 at x e (choose_yes form _ 3 at x e h).1 in
-    (let w = b.1 in let q : v ≡ x = cc in q, no seen b.0)
-  where
-    no : (b : Bool) → T (not b) → T b → ⊥
-    no true t u = t
-    no false t u = u
+    (let w = b.1 in let q : v ≡ x = cc in q, T_not seen b.0)
 
 constant_new : (s : List ℕ) (earlier : List Constant) (p : ℕ) (c : Constant) (e : ℕ) → constant_item s earlier p ≡ got c e
     → T (any (alike_constants c) earlier) → ⊥
@@ -79,14 +73,11 @@ abbrev AllNew : Policy → Type 0
 AllNew P = Apart no_constant alike_constants P.constants × Apart nameless alike_verbs P.verbs
 
 accepted_new : (s : List ℕ) (A : Accepted) (e : ℕ) → read_policy s ≡ got A e → AllNew (policy_of A)
-unfolding computed_policy constants_from verbs_from assertions_from
 accepted_new s A e r =
-    let c = and_then_got _ _ A e (headed_got policy_versions s _ A e (sym (policy_is s) ∙ r)) in
-    let v = and_then_got _ _ A e c.3 in
-    let a = and_then_got _ _ A e v.3 in
-    let constants = list_apart no_constant alike_constants (constant_item s) (constant_new s) s 1 max_constants header_bytes c.0 c.1 c.2 in
-    let verbs = list_apart nameless alike_verbs (verb_item s) (verb_new s) s 0 max_verbs c.1 v.0 v.1 v.2 in
-    subst (λ (B : Accepted). AllNew (policy_of B)) (ended_got s _ A a.1 e a.3) (constants, verbs)
+    let L = accepted_lists s A e r in (
+      list_apart no_constant alike_constants (constant_item s) (constant_new s) s 1 max_constants header_bytes A.constants L.verbs_at L.constants,
+      list_apart nameless alike_verbs (verb_item s) (verb_new s) s 0 max_verbs L.verbs_at A.verbs L.assertions_at L.verbs,
+    )
 
 policy_new : (policy : List ℕ) (P : Policy) → ReadAs policy P → AllNew P
 policy_new policy P h = subst AllNew h.3 (accepted_new policy h.0 h.1 h.2)
@@ -114,13 +105,8 @@ one_constant policy P h i j m k e v =
 constants_each : (Q : Constant → Type 0) (s : List ℕ)
     → ((earlier : List Constant) (at : ℕ) (c : Constant) (e : ℕ) → constant_item s earlier at ≡ got c e → Q c)
     → (A : Accepted) (e : ℕ) → read_policy s ≡ got A e → (c : Constant) → Memᴰ c (contents A.constants) → Q c
-unfolding computed_policy constants_from verbs_from assertions_from
 constants_each Q s item A e r =
-    let c = and_then_got _ _ A e (headed_got policy_versions s _ A e (sym (policy_is s) ∙ r)) in
-    let v = and_then_got _ _ A e c.3 in
-    let a = and_then_got _ _ A e v.3 in
-    subst (λ (B : Accepted). (x : Constant) → Memᴰ x (contents B.constants) → Q x) (ended_got s _ A a.1 e a.3)
-    (list_each (constant_item s) Q item s 1 max_constants header_bytes c.0 c.1 c.2)
+    let L = accepted_lists s A e r in list_each (constant_item s) Q item s 1 max_constants header_bytes A.constants L.verbs_at L.constants
 
 -- a constant that has a label has number 0
 abbrev Plain : Constant → Type 0

@@ -44,25 +44,26 @@ months P h (suc (suc (suc (suc (suc (suc (suc (suc (suc (suc (suc zero))))))))))
 months P h (suc (suc (suc (suc (suc (suc (suc (suc (suc (suc (suc (suc zero)))))))))))) a z = h.11
 months P h (suc (suc (suc (suc (suc (suc (suc (suc (suc (suc (suc (suc (suc m))))))))))))) a z = absurd (omega arith)
 
-pub some_days : (y m : ℕ) → 1 ≤ m → m ≤ 12 → 1 ≤ month_days y m
-some_days y m a z = months (λ (m : ℕ). 1 ≤ month_days y m) (
-  omega arith,
+-- a month has a day, and no more than 31
+pub days_between : (y m : ℕ) → 1 ≤ m → m ≤ 12 → (1 ≤ month_days y m) × (month_days y m ≤ 31)
+days_between y = months (λ (m : ℕ). (1 ≤ month_days y m) × (month_days y m ≤ 31)) (
+  (omega arith, omega arith),
   february (leap_year y),
-  omega arith,
-  omega arith,
-  omega arith,
-  omega arith,
-  omega arith,
-  omega arith,
-  omega arith,
-  omega arith,
-  omega arith,
-  omega arith,
-) m a z
+  (omega arith, omega arith),
+  (omega arith, omega arith),
+  (omega arith, omega arith),
+  (omega arith, omega arith),
+  (omega arith, omega arith),
+  (omega arith, omega arith),
+  (omega arith, omega arith),
+  (omega arith, omega arith),
+  (omega arith, omega arith),
+  (omega arith, omega arith),
+)
   where
-    february : (b : Bool) → 1 ≤ cond b 29 28
-    february true = omega arith
-    february false = omega arith
+    february : (b : Bool) → (1 ≤ cond b 29 28) × (cond b 29 28 ≤ 31)
+    february true = (omega arith, omega arith)
+    february false = (omega arith, omega arith)
 
 pub twelve : (y : ℕ) → days_of_months y 11 + 31 ≡ year_days y
 unfolding days_of_months
@@ -84,7 +85,7 @@ firsts : (n y m : ℕ) → date_of n ≡ date y 1 1 → m < 12 → date_of (n + 
 unfolding days_of_months
 firsts n y zero e h = ap date_of (omega arith) ∙ e
 firsts n y (suc m) e h =
-    let some : 1 ≤ month_days y (suc m) = some_days y (suc m) (omega arith) (omega arith) in
+    let some : 1 ≤ month_days y (suc m) = (days_between y (suc m) (omega arith) (omega arith)).0 in
     let last : date_of (n + days_of_months y m + (month_days y (suc m) - 1)) ≡ date y (suc m) (suc (month_days y (suc m) - 1))
     = within (n + days_of_months y m) y (suc m) (month_days y (suc m) - 1) (firsts n y m e (omega arith)) (omega (arith, some)) in
     let day : suc (n + days_of_months y m + (month_days y (suc m) - 1)) ≡ n + (days_of_months y m + month_days y (suc m)) = omega (arith, some) in
@@ -158,7 +159,7 @@ on n d (h, e) = go (dec_lt d.day (month_days d.year d.month)) (dec_lt d.month 12
     go (yes l) m = rw (in_month d.year d.month d.day l)
         (record { since = h.since; month = h.month; months = h.months; day = omega arith; days = l }, omega (arith, e, some))
     go (no l) (yes m) = rw (to_month d.year d.month d.day (omega (arith, l)) m) (
-      record { since = h.since; month = omega arith; months = m; day = omega arith; days = some_days d.year (suc d.month) (omega arith) m },
+      record { since = h.since; month = omega arith; months = m; day = omega arith; days = (days_between d.year (suc d.month) (omega arith) m).0 },
       (
           let same : suc d.month - 1 ≡ d.month = omega arith in
           let k : days_of_months d.year (suc d.month - 1) ≡ days_of_months d.year d.month = ap (days_of_months d.year) same in

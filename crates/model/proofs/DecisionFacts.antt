@@ -9,11 +9,9 @@ use lib.Seq.{take_at, drop_at, drop-drop}
 use Rattle.model.specs.Limits.{answer_bytes}
 use Rattle.model.specs.Lists.{sorted}
 use Rattle.model.specs.Syntax.{Assertion, Withdrawal, Link, Policy, Request, Node, World, Read, world_in}
-use Rattle.model.specs.Rules.{Rule}
 use Rattle.model.specs.Records.{key_of, answers_bytes}
 use Rattle.model.specs.Meant.{Outcome}
 use Rattle.model.specs.Rounds.{last_round}
-use Rattle.model.specs.Steps.{eq_said, step}
 use Rattle.model.specs.Deciding.{decide, read, counted_in}
 use Rattle.model.specs.Bytes.{Reading, got, refused}
 use Rattle.model.specs.Policies.{Accepted, policy_of, read_policy}
@@ -21,7 +19,7 @@ use Rattle.model.specs.Decision.{Slices, Lent, Taken, accepted, refused_on, requ
 use Rattle.model.specs.Decision.{read_slices, capacity, room, reported, decision_of, decision}
 use Rattle.model.specs.Inputs.{ReadAs, AskedAs, WithdrawnAs, RankedAs, Inputs, InputsBySlice, answer_in}
 use Rattle.model.proofs.RoundFacts as S
-use Rattle.model.proofs.StepFacts.{eq_said_of, eq_said_refl, step_of, step_in}
+use Rattle.model.proofs.StepFacts.{steps_computed}
 use Rattle.model.proofs.OutcomeFacts.{sorted_length, sorted_round, Result, over, many, fine, result, found}
 
 -- ---- accepted inputs
@@ -94,7 +92,7 @@ reports l R h = ap (λ (t : Taken). decision_of t l) h
 
 rounds_found : (W : World) (𝒜 : List Assertion) (n : Node) (c r : ℕ) → last_round (sorted key_of (found W 𝒜 n c r)) ≤ length (sorted key_of (found W 𝒜 n c r))
 rounds_found W 𝒜 n c r =
-    let h = S.rounds_le eq_said (step W 𝒜) (Rule W 𝒜) eq_said_of eq_said_refl (step_of W 𝒜) (step_in W 𝒜) (suc c) 0 in
+    let h = S.rounds_le (steps_computed W 𝒜) (suc c) 0 in
     rw (sorted_round (found W 𝒜 n c r), sorted_length key_of (found W 𝒜 n c r)) (omega arith)
 
 rounds_result : (W : World) (𝒜 : List Assertion) (n : Node) (c r : ℕ) (l : Lent) {o : Outcome} → Result W 𝒜 n c r o

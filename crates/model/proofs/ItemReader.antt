@@ -45,7 +45,7 @@ module _ {A : Type 0} (s : List ℕ) (r : Reader A) (at e : ℕ) where
   unfolding sized
   sized1_out p h = then_out _ (byte_out s at e p h)
 
-  sized2_in : (p : ℕ) → p + 2 + u16_at s p ≤ e → sized (u16 s) r at e p ≡ inside (p + 2 + u16_at s p) (p + 2)
+  pub sized2_in : (p : ℕ) → p + 2 + u16_at s p ≤ e → sized (u16 s) r at e p ≡ inside (p + 2 + u16_at s p) (p + 2)
   unfolding sized
   sized2_in p k = then_in _ (u16_in s at e p (p + 2) refl (omega arith)) ∙ choose_true _ _ (le-leb (p + 2 + u16_at s p) e k)
 

@@ -4,15 +4,15 @@ use mathlib.Core.Logic.{◌↔◌}
 use mathlib.Core.List.Memᴰ
 use mathlib.Core.List.{List, [], ◌∷◌, map, Memᴰ}
 use mathlib.Core.Bool.{Bool, true, false, cond}
-use Prim.Native.Nat.{ℕ, ◌<◌, ◌≤◌}
+use Prim.Native.Nat.{ℕ, zero, suc, ◌<◌, ◌≤◌}
 use native.Mathlib.Decide.{dec_lt}
 use native.Mathlib.Omega.{arith}
 use lib.ListN.{length, get_or, get_or-eq_default}
 use lib.Dec.{T, eqb, eqb→eq}
 use Rattle.model.specs.Limits.{principal}
 use Rattle.model.specs.Lists.{all, each, member}
-use Rattle.model.specs.Syntax.{Expr, con, var, today, Constraint, Constant, vars_of, vars_test}
-use Rattle.model.specs.Kinds.{Demands, no_constant, kind_at, kind_under, in_place, comparable, meets, occurring, kinds, kinds_for, choices_of}
+use Rattle.model.specs.Syntax.{Expr, con, var, today, Constraint, Constant, Verb, vars_of, vars_test}
+use Rattle.model.specs.Kinds.{Demands, param_kinds, no_constant, kind_at, kind_under, in_place, comparable, meets, occurring, kinds, kinds_for, choices_of}
 use Rattle.model.specs.Kinds.{fitting, variables, kind_of, is_var}
 use Rattle.model.proofs.ListFacts.{and_of, and_in, all_of_law, all_in, any_of_law, any_in, each_in, member_in}
 use Rattle.model.proofs.BindingFacts.{picks_of, picks_in, at_variable}
@@ -25,6 +25,17 @@ kind_there cs c k e l = go (dec_lt c (length cs))
     go (yes h) = h
     go (no h) = absurd (let z : kind_at cs c ≡ 0 = ap (λ (x : Constant). x.kind)
         (get_or-eq_default cs no_constant (let q : length cs ≤ c = omega arith in q)) in omega arith)
+
+-- what holds of each verb's kinds, of those of verb 0 and of none holds at every number
+pub kinds_each : (P : List ℕ → Type 0) → P (principal ∷ []) → P [] → (vs : List Verb) → ((v : Verb) → Memᴰ v vs → P v.kinds)
+    → (v : ℕ) → P (param_kinds vs v)
+kinds_each P one none vs h zero = one
+kinds_each P one none vs h (suc v) = go vs h v
+  where
+    go : (vs : List Verb) → ((v : Verb) → Memᴰ v vs → P v.kinds) → (v : ℕ) → P (get_or (map (λ (x : Verb). x.kinds) vs) v [])
+    go [] h v = none
+    go (x ∷ vs) h zero = h x (Memᴰ.head refl)
+    go (x ∷ vs) h (suc v) = go vs (λ y m. h y (Memᴰ.tail m)) v
 
 -- ---- there is a choice
 

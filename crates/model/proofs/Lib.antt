@@ -1,5 +1,6 @@
 pub mod Tests
 pub mod ByteFacts
+pub mod Shifts
 pub mod ListFacts
 pub mod Order
 pub mod ClosureFacts
@@ -10,6 +11,7 @@ pub mod StepFacts
 pub mod ReachFacts
 pub mod JudgingFacts
 pub mod RecordFacts
+pub mod ShapeFacts
 pub mod OutcomeFacts
 pub mod Inside
 pub mod WorldFacts
@@ -23,6 +25,7 @@ pub mod FactReader
 pub mod AssertionReader
 pub mod ItemReader
 pub mod PolicyReader
+pub mod ShiftFacts
 pub mod CheckedNodes
 pub mod RequestReader
 pub mod EntryReader

@@ -1,7 +1,7 @@
 -- What is in a computed list, and what a computed test says.
 use mathlib.Core.Path.{◌≡◌, refl, sym, ap, ap₂, subst, ◌∙◌}
 use mathlib.Core.Logic.{◌⊎◌, inl, inr, ⊎_elim}
-use mathlib.Core.List.{List, [], ◌∷◌, ◌++◌, map, Memᴰ}
+use mathlib.Core.List.{List, [], ◌∷◌, ◌++◌, append_assoc, map, Memᴰ}
 use mathlib.Core.Bool.{Bool, true, false, cond, ◌&&◌, ◌||◌, or_assoc}
 use Prim.Native.Nat.{ℕ, suc, ◌≤◌, zero-le, suc-le-suc}
 use lib.ListN.{length}
@@ -93,6 +93,10 @@ module _ {A B : Type 0} where
   pub each_in : (f : A → List B) {x : A} {y : B} {xs : List A} → Memᴰ x xs → Memᴰ y (f x) → Memᴰ y (each xs f)
   each_in f {y = y} (mathlib.Core.List.Memᴰ.head e) m = mathlib.Core.List.Memᴰ.append_left _ (subst (λ z. Memᴰ y (f z)) e m)
   each_in f (mathlib.Core.List.Memᴰ.tail {x = x} n) m = mathlib.Core.List.Memᴰ.append_right (f x) (each_in f n m)
+
+pub each_append : {A B : Type 0} (f : A → List B) (xs ys : List A) → each (xs ++ ys) f ≡ each xs f ++ each ys f
+each_append f [] ys = refl
+each_append {B = B} f (x ∷ xs) ys = ap (λ (l : List B). f x ++ l) (each_append f xs ys) ∙ sym (append_assoc (f x) (each xs f) (each ys f))
 
 -- tests that agree keep the same
 pub keep_same : {A : Type 0} (p q : A → Bool) (xs : List A) → ((x : A) → p x ≡ q x) → keep p xs ≡ keep q xs

@@ -10,7 +10,7 @@ use lib.Dec.{eqb, ltb, leb}
 use borrow.Author.Tests.{lt-ltb, le-ltb, le-leb, lt-leb}
 use Rattle.model.specs.Limits.{max_constants, max_verbs, max_assertions, policy_versions, length_at, header_bytes}
 use Rattle.model.specs.Bytes.{byte_at, u16_at, u32_at, choose, Reading, got, refused, and_then}
-use Rattle.model.specs.Policies.{Item, contents, headed, version_there, length_right, ended, items_from, list_at, Accepted, assertions_from}
+use Rattle.model.specs.Policies.{Item, contents, headed, version_there, length_right, ended, items_from, list_at, assertions_from}
 use Rattle.model.specs.Policies.{verbs_from, constants_from, computed_policy, read_policy}
 use Rattle.model.specs.Policies as policies
 use Rattle.model.specs.Reader.{Reader, items, list}

@@ -7,9 +7,8 @@ use mathlib.Core.Bool.{Bool, true, false, not}
 use Prim.Native.Nat.{ℕ, zero, suc, ◌+◌, ◌≤◌}
 use native.Mathlib.Omega.{arith}
 use lib.ListN.{length, get_or, length-map, length-append}
-use lib.Dec.{T, eqb, ltb, eqb→eq}
-use borrow.Author.Tests.{ltb-false}
-use Rattle.model.specs.Limits.{policy_versions, principal, max_constants, header_bytes}
+use lib.Dec.{T, eqb, ltb, eqb→eq, nltb→le}
+use Rattle.model.specs.Limits.{principal, max_constants, max_verbs, max_assertions, header_bytes}
 use Rattle.model.specs.Lists.{all}
 use Rattle.model.specs.Syntax.{Expr, con, var, today, Fact, flat, can_say, subject, Assertion, Constant, Verb, Policy}
 use Rattle.model.specs.Kinds.{Demands, kind_at, places, demands_of, in_place, comparable, meets, kinds_for, choices_of, fitting, fits_assertion}
@@ -18,7 +17,8 @@ use Rattle.model.specs.Safety.{safe_assertion}
 use Rattle.model.specs.Bytes.{byte_at, u16_at, choose, Reading, got, refused, and_then}
 use Rattle.model.specs.Readings.{arity_of, exprs_at, levels_at, fact_at, assertion_read_at}
 use Rattle.model.specs.Forms.{Form, ends, broken, no_verb, assertion_form}
-use Rattle.model.specs.Policies.{Item, contents, headed, ended, items_from, list_at, constant_item, judged, assertion_by, assertion_item, Accepted}
+use Rattle.model.specs.Policies.{Item, contents, length_right, headed, ended, items_from, list_at}
+use Rattle.model.specs.Policies.{constant_item, verb_item, judged, assertion_by, assertion_item, Accepted}
 use Rattle.model.specs.Policies.{policy_of, assertions_from, verbs_from, constants_from, computed_policy, read_policy}
 use Rattle.model.proofs.PolicyReader.{policy_is}
 use Rattle.model.specs.Records.{Arity}
@@ -96,12 +96,8 @@ module _ {A : Type 0} (f : List A → ℕ → Reading A) where
       let b = choose_no _ _ 3 p js e a.1 in
       let c = choose_no (ltb highest (u16_at s p)) _ 3 p js e b.1 in
       let n = items_count _ [] _ js e c.1 in
-      let h = ltb-false highest (u16_at s p) (no (ltb highest (u16_at s p)) c.0) in
+      let h = nltb→le highest (u16_at s p) c.0 in
       omega arith
-    where
-      no : (b : Bool) → T (not b) → b ≡ false
-      no true t = absurd t
-      no false t = refl
 
 -- ---- assertions
 
@@ -147,43 +143,56 @@ module _ {A : Type 0} where
   unfolding ended
   ended_got s x y p e h = let w = (choose_yes _ _ 3 p y e h).1 in cc
 
--- each assertion of an accepted policy
-pub accepted_fine : (s : List ℕ) (A : Accepted) (e : ℕ) → read_policy s ≡ got A e
-    → (a : Assertion) → Memᴰ a (policy_of A).assertions → Fine (policy_of A).constants (policy_of A).verbs a
-unfolding computed_policy constants_from verbs_from assertions_from
-accepted_fine s A e r =
-    let c = and_then_got _ _ A e (headed_got policy_versions s _ A e (sym (policy_is s) ∙ r)) in
+-- ---- an accepted policy
+
+-- its lists are read one after the other, behind version and length
+pub record ReadLists (s : List ℕ) (A : Accepted) : Type 0 where
+  pub verbs_at : ℕ
+  pub assertions_at : ℕ
+  pub end : ℕ
+  pub version : byte_at s 0 ≡ A.version
+  pub header : T (length_right s)
+  pub constants : list_at s 1 max_constants (constant_item s) header_bytes ≡ got A.constants verbs_at
+  pub verbs : list_at s 0 max_verbs (verb_item s) verbs_at ≡ got A.verbs assertions_at
+  pub assertions : list_at s 0 max_assertions (assertion_item (contents A.constants) (contents A.verbs) s) assertions_at ≡ got A.assertions end
+
+pub accepted_lists : (s : List ℕ) (A : Accepted) (e : ℕ) → read_policy s ≡ got A e → ReadLists s A
+unfolding computed_policy headed constants_from verbs_from assertions_from
+accepted_lists s A e r =
+    let h = choose_yes (length_right s) _ 2 1 A e (choose_yes _ _ 1 0 A e (sym (policy_is s) ∙ r)).1 in
+    let c = and_then_got _ _ A e h.1 in
     let v = and_then_got _ _ A e c.3 in
     let a = and_then_got _ _ A e v.3 in
-    let q = ended_got s _ A a.1 e a.3 in
-    subst (λ (B : Accepted). (x : Assertion) → Memᴰ x (policy_of B).assertions → Fine (policy_of B).constants (policy_of B).verbs x) q
-    (list_each (assertion_item (contents c.0) (contents v.0) s) (Fine (contents c.0) (contents v.0))
-    (item_fine (contents c.0) (contents v.0) s) s 0 _ v.1 a.0 a.1 a.2)
+    subst (ReadLists s) (ended_got s _ A a.1 e a.3) (record {
+      verbs_at = c.1;
+      assertions_at = v.1;
+      end = a.1;
+      version = refl;
+      header = h.0;
+      constants = c.2;
+      verbs = v.2;
+      assertions = a.2;
+    })
+
+-- each assertion fits, is safe, and its head has its parameters
+pub accepted_fine : (s : List ℕ) (A : Accepted) (e : ℕ) → read_policy s ≡ got A e
+    → (a : Assertion) → Memᴰ a (policy_of A).assertions → Fine (policy_of A).constants (policy_of A).verbs a
+accepted_fine s A e r =
+    let L = accepted_lists s A e r in
+    list_each (assertion_item (contents A.constants) (contents A.verbs) s) (Fine (contents A.constants) (contents A.verbs))
+    (item_fine (contents A.constants) (contents A.verbs) s) s 0 _ L.assertions_at A.assertions L.end L.assertions
 
 pub policy_fine : (policy : List ℕ) (P : Policy) → ReadAs policy P → (a : Assertion) → Memᴰ a P.assertions → Fine P.constants P.verbs a
 policy_fine policy P h = subst (λ (P : Policy). (a : Assertion) → Memᴰ a P.assertions → Fine P.constants P.verbs a) h.3
     (accepted_fine policy h.0 h.1 h.2)
 
--- the version is the first byte
-pub accepted_version : (s : List ℕ) (A : Accepted) (e : ℕ) → read_policy s ≡ got A e → byte_at s 0 ≡ A.version
-unfolding computed_policy constants_from verbs_from assertions_from
-accepted_version s A e r =
-    let c = and_then_got _ _ A e (headed_got policy_versions s _ A e (sym (policy_is s) ∙ r)) in
-    let v = and_then_got _ _ A e c.3 in
-    let a = and_then_got _ _ A e v.3 in
-    ap (λ (B : Accepted). B.version) (ended_got s _ A a.1 e a.3)
-
 -- "Constants (1 to 255 ..)"
 pub accepted_count : (s : List ℕ) (A : Accepted) (e : ℕ) → read_policy s ≡ got A e → length (policy_of A).constants ≤ 255
-unfolding computed_policy constants_from verbs_from assertions_from
 accepted_count s A e r =
-    let c = and_then_got _ _ A e (headed_got policy_versions s _ A e (sym (policy_is s) ∙ r)) in
-    let v = and_then_got _ _ A e c.3 in
-    let a = and_then_got _ _ A e v.3 in
-    let q = ended_got s _ A a.1 e a.3 in
-    let n = list_count (constant_item s) s 1 max_constants header_bytes c.0 c.1 c.2 in
-    let m = length-map c.0 (λ (i : Item Constant). i.of) in
-    subst (λ (B : Accepted). length (policy_of B).constants ≤ 255) q (omega arith)
+    let L = accepted_lists s A e r in
+    let n = list_count (constant_item s) s 1 max_constants header_bytes A.constants L.verbs_at L.constants in
+    let m = length-map A.constants (λ (i : Item Constant). i.of) in
+    omega arith
 
 -- ---- what a fitting head has: its subject is a constant or a variable of the eight
 

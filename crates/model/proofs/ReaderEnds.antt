@@ -13,7 +13,8 @@ use Rattle.model.specs.Readings.{arity_of, levels_end, fact_end, facts_end}
 use Rattle.model.specs.Forms as forms
 use Rattle.model.specs.Forms.{ends, broken, no_verb, then_form, phrase_form, levels_form, fact_form, facts_form}
 
-past : (b : Bool) (x y : forms.Form) (q : ℕ) → ((p : ℕ) → x ≡ ends p → ⊥) → choose b x y ≡ ends q → (b ≡ false) × (y ≡ ends q)
+-- a test that a form has passed
+pub past : (b : Bool) (x y : forms.Form) (q : ℕ) → ((p : ℕ) → x ≡ ends p → ⊥) → choose b x y ≡ ends q → (b ≡ false) × (y ≡ ends q)
 unfolding choose
 past true x y q n e = absurd (n q e)
 past false x y q n e = (refl, e)

@@ -2,10 +2,10 @@
 use mathlib.Core.Path.{◌≡◌, refl, sym, ap, ap₂, subst, ◌∙◌}
 use mathlib.Core.Logic.{◌↔◌}
 use mathlib.Core.List.{List, [], ◌∷◌, ◌++◌, map, Memᴰ}
-use mathlib.Core.Bool.{Bool, true, false, ◌&&◌, not}
+use mathlib.Core.Bool.{Bool, true, false, ◌&&◌}
 use Prim.Native.Nat.{ℕ}
 use lib.ListN.{length}
-use lib.Dec.{T, eqb, ltb, eqb→eq, eqb_refl}
+use lib.Dec.{T, T_not, not_T, eqb, ltb, eqb→eq, eqb_refl}
 use Rattle.model.specs.Lists.{keep, only, any, all, each, sorted}
 use Rattle.model.specs.Syntax.{Expr, con, var, today, Constraint, Assertion, Withdrawal, World, Node, Said, Read, world_in}
 use Rattle.model.specs.Values.{passes}
@@ -56,20 +56,12 @@ module _ (W : World) (a : Assertion) where
 
   stays↔ : (ws : List Withdrawal) → T (stays W ws a) ↔ Stays ws
   stays↔ ws = (
-    λ t w m e f h. not_in (any (removes W a.issuer a.serial) ws) t (any_in (removes W a.issuer a.serial) m (removes_in w e f h)),
-    λ h. not_of (any (removes W a.issuer a.serial) ws) (λ t.
+    λ t w m e f h. T_not (any (removes W a.issuer a.serial) ws) t (any_in (removes W a.issuer a.serial) m (removes_in w e f h)),
+    λ h. not_T (any (removes W a.issuer a.serial) ws) (λ t.
         let r = any_of_law (removes W a.issuer a.serial) ws t in
         let x = removes_of r.0 r.2 in
         h r.0 r.1 x.0 x.1 x.2),
   )
-    where
-      not_in : (b : Bool) → T (not b) → T b → ⊥
-      not_in true t u = t
-      not_in false t u = u
-
-      not_of : (b : Bool) → (T b → ⊥) → T (not b)
-      not_of true h = h tt
-      not_of false h = tt
 
   pub left↔ : (ws : List Withdrawal) (𝒜 : List Assertion) → Memᴰ a (left W ws 𝒜) ↔ (Memᴰ a 𝒜 × Stays ws)
   left↔ ws 𝒜 = (

@@ -14,8 +14,8 @@ use Rattle.model.proofs.Tests.{and_true}
 use Rattle.labels.specs.Hash.{buckets, hash_of}
 use Rattle.labels.proofs.Laws.{alike_hash, hash_small}
 use Rattle.names.specs.Seeking.{constant_bucket, verb_bucket}
-use Rattle.names.proofs.FormFacts.{constant_inside, constant_two, constant_start, verb_start, number_there}
-use Rattle.names.proofs.FormFacts.{kinds_differ, alike_labels_law, alike_numbers, verb_inside, verb_label, verbs_alike}
+use Rattle.names.proofs.FormFacts.{constant_inside, constant_start, verb_start, number_there}
+use Rattle.names.proofs.FormFacts.{kinds_differ, alike_labels_law, alike_numbers, verb_inside, verb_long, verbs_alike, constant_two}
 
 not_true : (b : Bool) → (b ≡ true → ⊥) → b ≡ false
 not_true true h = absurd (h refl)
@@ -47,24 +47,24 @@ constant_bucket_law c = go (has_label c.kind)
 pub verb_bucket_law : (v : Verb) → verb_bucket v < buckets
 verb_bucket_law v = hash_small v.label
 
--- ---- the bucket of what stands at an offset, as the code finds it
+-- ---- the bucket of what the bytes begin with, as the code finds it
 
-module _ (s : List ℕ) (at : ℕ) where
-  pub label_bucket : has_label (byte_at s (at + 1)) ≡ true → (r n : ℕ) → n ≡ byte_at s at → r ≡ hash_of (bytes_at (n - 1) s (at + 2)) → r ≡ constant_bucket
-      (constant_read_at s at)
+module _ (s : List ℕ) where
+  pub label_bucket : has_label (byte_at s 1) ≡ true → (r n : ℕ) → n ≡ byte_at s 0 → r ≡ hash_of (bytes_at (n - 1) s 2)
+      → r ≡ constant_bucket (constant_read_at s 0)
   unfolding constant_read_at
   label_bucket h r n d e =
-      e ∙ ap (λ (m : ℕ). hash_of (bytes_at (m - 1) s (at + 2))) d ∙ sym
-      (choose_true _ _ h ∙ ap hash_of (choose_true (bytes_at (byte_at s at - 1) s (at + 2)) [] h))
+      e ∙ ap (λ (m : ℕ). hash_of (bytes_at (m - 1) s 2)) d
+      ∙ sym (choose_true _ _ h ∙ ap hash_of (choose_true (bytes_at (byte_at s 0 - 1) s 2) [] h))
 
-  pub number_bucket : has_label (byte_at s (at + 1)) ≡ false → (r : ℕ) → r ≡ u32_at s (at + 2) → r % buckets ≡ constant_bucket (constant_read_at s at)
+  pub number_bucket : has_label (byte_at s 1) ≡ false → (r : ℕ) → r ≡ u32_at s 2 → r % buckets ≡ constant_bucket (constant_read_at s 0)
   unfolding constant_read_at
-  number_bucket h r e = ap (λ (n : ℕ). n % buckets) e ∙ sym (choose_false _ _ h ∙ ap (λ (n : ℕ). n % buckets) (choose_false 0 (u32_at s (at + 2)) h))
+  number_bucket h r e = ap (λ (n : ℕ). n % buckets) e ∙ sym (choose_false _ _ h ∙ ap (λ (n : ℕ). n % buckets) (choose_false 0 (u32_at s 2) h))
 
-  pub name_bucket : (r n a : ℕ) → a ≡ byte_at s (at + 1) → n ≡ byte_at s at → r ≡ hash_of (bytes_at (n - 1 - a) s (at + 2 + a)) → r ≡ verb_bucket (verb_at s at)
+  pub name_bucket : (r n a : ℕ) → a ≡ byte_at s 1 → n ≡ byte_at s 0 → r ≡ hash_of (bytes_at (n - 1 - a) s (2 + a)) → r ≡ verb_bucket (verb_at s 0)
   unfolding verb_at
-  name_bucket r n a d e h = h ∙ ap (λ (m : ℕ). hash_of (bytes_at (m - 1 - a) s (at + 2 + a))) e ∙ ap
-      (λ (b : ℕ). hash_of (bytes_at (byte_at s at - 1 - b) s (at + 2 + b))) d
+  name_bucket r n a d e h =
+      h ∙ ap (λ (m : ℕ). hash_of (bytes_at (m - 1 - a) s (2 + a))) e ∙ ap (λ (b : ℕ). hash_of (bytes_at (byte_at s 0 - 1 - b) s (2 + b))) d
 
 -- what the code is proved by, of an item of right form
 pub ruleset constant_facts = (
@@ -80,4 +80,4 @@ pub ruleset constant_facts = (
   number_bucket,
 )
 
-pub ruleset verb_facts = (verb_inside, verb_label, verb_start, verbs_apart, verbs_alike, name_bucket)
+pub ruleset verb_facts = (verb_inside, verb_long, verb_start, verbs_apart, verbs_alike, name_bucket)

@@ -52,41 +52,45 @@ module _ (s : List ℕ) (at : ℕ) where
       let n = leb-true 1 (byte_at s at - 1 - byte_at s (at + 1)) (both_first _ _ (both_second _ _ l)) in
       omega arith
 
-  -- the same by the bytes, as the code reads them
-  pub there_inside : item_there s at ≡ true → at + 1 + byte_at s at ≤ length s
-  unfolding item_end
-  there_inside h = there_within h
+-- ---- the same of the bytes that begin with an item, as the code reads them
 
-  pub there_begun : item_there s at ≡ true → at + 1 ≤ length s
+module _ (s : List ℕ) where
+  pub there_inside : item_there s 0 ≡ true → 1 + byte_at s 0 ≤ length s
+  unfolding item_end
+  there_inside h = there_within s 0 h
+
+  pub there_begun : item_there s 0 ≡ true → 1 ≤ length s
   there_begun h = omega (arith, there_inside h)
 
-  pub constant_inside : constant_form s at ≡ true → at + 1 + byte_at s at ≤ length s
+  pub constant_inside : constant_form s 0 ≡ true → 1 + byte_at s 0 ≤ length s
   unfolding item_end
-  constant_inside h = constant_within h
+  constant_inside h = constant_within s 0 h
 
-  pub verb_inside : verb_form s at ≡ true → at + 1 + byte_at s at ≤ length s
+  pub verb_inside : verb_form s 0 ≡ true → 1 + byte_at s 0 ≤ length s
   unfolding item_end
-  verb_inside h = verb_within h
+  verb_inside h = verb_within s 0 h
 
   -- the bytes before a label, and those of a number, are there
-  pub constant_start : constant_form s at ≡ true → at + 3 ≤ length s
-  constant_start h = omega (arith, constant_inside h, constant_two h)
+  pub constant_start : constant_form s 0 ≡ true → 3 ≤ length s
+  constant_start h = omega (arith, constant_inside h, constant_two s 0 h)
 
-  pub verb_start : verb_form s at ≡ true → at + 3 ≤ length s
-  verb_start h = omega (arith, verb_inside h, verb_label h)
+  pub verb_long : verb_form s 0 ≡ true → 2 + byte_at s 1 ≤ byte_at s 0
+  verb_long h = verb_label s 0 h
 
-  pub number_there : constant_form s at ≡ true → has_label (byte_at s (at + 1)) ≡ false → at + 6 ≤ length s
-  number_there h k = omega (arith, constant_inside h, number_five h k)
+  pub verb_start : verb_form s 0 ≡ true → 3 ≤ length s
+  verb_start h = omega (arith, verb_inside h, verb_long h)
 
-  -- ---- the forms, test by test
+  pub number_there : constant_form s 0 ≡ true → has_label (byte_at s 1) ≡ false → 6 ≤ length s
+  number_there h k = omega (arith, constant_inside h, number_five s 0 h k)
 
-  pub constant_tests : constant_form s at ≡ (item_there s at && (leb 2 (byte_at s at) && value_form s at))
+  -- the forms, test by test
+  pub constant_tests : constant_form s 0 ≡ (item_there s 0 && (leb 2 (byte_at s 0) && value_form s 0))
   unfolding constant_form
-  constant_tests = in_turn (item_there s at) (leb 2 (byte_at s at)) (value_form s at)
+  constant_tests = in_turn (item_there s 0) (leb 2 (byte_at s 0)) (value_form s 0)
 
-  pub verb_tests : verb_form s at ≡ (item_there s at && (leb 1 (byte_at s at) && signature_form s at))
+  pub verb_tests : verb_form s 0 ≡ (item_there s 0 && (leb 1 (byte_at s 0) && signature_form s 0))
   unfolding verb_form
-  verb_tests = in_turn (item_there s at) (leb 1 (byte_at s at)) (signature_form s at)
+  verb_tests = in_turn (item_there s 0) (leb 1 (byte_at s 0)) (signature_form s 0)
 
 -- what the code is proved by
 pub ruleset form_tests = (there_inside, there_begun, there_within, constant_tests, verb_tests)
@@ -107,29 +111,27 @@ numbered : (b c : Bool) (l m : List ℕ) (x y : ℕ) → b ≡ false → c ≡ f
 unfolding choose
 numbered b c l m x y d e = rw (d, e)
 
-module _ (s : List ℕ) (q p : ℕ) where
-  pub kinds_differ : (byte_at s (q + 1) ≡ byte_at s (p + 1) → ⊥) → false ≡ alike_constants (constant_read_at s q) (constant_read_at s p)
+module _ (s t : List ℕ) where
+  pub kinds_differ : (byte_at s 1 ≡ byte_at t 1 → ⊥) → false ≡ alike_constants (constant_read_at s 0) (constant_read_at t 0)
   unfolding constant_read_at
   kinds_differ h = and_no _ _ false (ne_eqb _ _ h) refl
 
-  pub alike_labels_law : (z : Bool) → byte_at s (q + 1) ≡ byte_at s (p + 1) → has_label (byte_at s (q + 1)) ≡ true
-      → z ≡ alike (bytes_at (byte_at s q - 1) s (q + 2)) (bytes_at (byte_at s p - 1) s (p + 2)) → z ≡ alike_constants (constant_read_at s q)
-      (constant_read_at s p)
+  pub alike_labels_law : (z : Bool) → byte_at s 1 ≡ byte_at t 1 → has_label (byte_at s 1) ≡ true
+      → z ≡ alike (bytes_at (byte_at s 0 - 1) s 2) (bytes_at (byte_at t 0 - 1) t 2) → z ≡ alike_constants (constant_read_at s 0) (constant_read_at t 0)
   unfolding constant_read_at
   alike_labels_law z e k h =
-      and_yes (eqb (byte_at s (q + 1)) (byte_at s (p + 1))) _ z (eq-eqb _ _ e)
-      (h ∙ sym (labelled (has_label (byte_at s (q + 1))) (has_label (byte_at s (p + 1))) _ _ _ _ k (ap has_label (sym e) ∙ k)))
+      and_yes (eqb (byte_at s 1) (byte_at t 1)) _ z (eq-eqb _ _ e)
+      (h ∙ sym (labelled (has_label (byte_at s 1)) (has_label (byte_at t 1)) _ _ _ _ k (ap has_label (sym e) ∙ k)))
 
-  pub alike_numbers : (z : Bool) → byte_at s (q + 1) ≡ byte_at s (p + 1) → has_label (byte_at s (q + 1)) ≡ false
-      → z ≡ eqb (u32_at s (q + 2)) (u32_at s (p + 2)) → z ≡ alike_constants (constant_read_at s q) (constant_read_at s p)
+  pub alike_numbers : (z : Bool) → byte_at s 1 ≡ byte_at t 1 → has_label (byte_at s 1) ≡ false → z ≡ eqb (u32_at s 2) (u32_at t 2)
+      → z ≡ alike_constants (constant_read_at s 0) (constant_read_at t 0)
   unfolding constant_read_at
   alike_numbers z e k h =
-      and_yes (eqb (byte_at s (q + 1)) (byte_at s (p + 1))) _ z (eq-eqb _ _ e)
-      (h ∙ sym (numbered (has_label (byte_at s (q + 1))) (has_label (byte_at s (p + 1))) _ _ _ _ k (ap has_label (sym e) ∙ k)))
+      and_yes (eqb (byte_at s 1) (byte_at t 1)) _ z (eq-eqb _ _ e)
+      (h ∙ sym (numbered (has_label (byte_at s 1)) (has_label (byte_at t 1)) _ _ _ _ k (ap has_label (sym e) ∙ k)))
 
   pub verbs_alike : (z : Bool)
-      → z ≡ alike (bytes_at (byte_at s q - 1 - byte_at s (q + 1)) s (q + 2 + byte_at s (q + 1)))
-      (bytes_at (byte_at s p - 1 - byte_at s (p + 1)) s (p + 2 + byte_at s (p + 1)))
-      → z ≡ alike_verbs (verb_at s q) (verb_at s p)
+      → z ≡ alike (bytes_at (byte_at s 0 - 1 - byte_at s 1) s (2 + byte_at s 1)) (bytes_at (byte_at t 0 - 1 - byte_at t 1) t (2 + byte_at t 1))
+      → z ≡ alike_verbs (verb_at s 0) (verb_at t 0)
   unfolding verb_at
   verbs_alike z h = h

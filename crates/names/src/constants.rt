@@ -5,48 +5,99 @@ ghost use Rattle.wire.specs.Budget.{farthest};
 ghost use Rattle.model.specs.Limits.{max_constants};
 ghost use Rattle.model.specs.Values as values;
 ghost use Rattle.model.specs.Readings.{item_end, constant_read_at};
-ghost use Rattle.model.specs.Forms.{item_there, number_form, value_form, constant_form};
-ghost use Rattle.model.specs.Policies.{list_at, alike_constants, constant_item};
+ghost use Rattle.model.specs.Forms.{item_there, number_form, value_form};
+ghost use Rattle.model.specs.Policies.{list_at, constant_item};
 ghost use Rattle.slices.specs.Steps.{step, step_of};
+ghost use Rattle.labels.specs.Hash.{buckets};
+ghost use Rattle.names.specs.Names.{constant_right, constants_same};
 ghost use Rattle.names.specs.Seeking.{constant_bucket};
 
 use crate::named::{self, Named};
 use limits::Kind;
 use slices::Refusal;
 
-// The item at `at` is there, and ends by the end of the bytes.
+// Where the parts of a constant stand behind its length byte.
+const KIND: usize = 1;
+
+const VALUE: usize = 2;
+
+// ---- a constant, in whatever slice: `item` is the bytes that begin with it
+
+// The item is there, and ends by the end of the bytes.
 #[tactic(auto, unfolding(model::specs::Forms::item_there, model::specs::Readings::item_end, model::specs::Bytes::both, model::specs::Bytes::choose))]
-pub fn item_there(s: &[u8], at: usize) -> bool
-    ensures { result ≡ item_there s.now at }
+pub fn item_there(item: &[u8]) -> bool
+    ensures { result ≡ item_there item.now 0 }
 {
-    at < s.len() && at + 1 + wire::byte(s, at) <= s.len()
+    0 < item.len() && 1 + wire::byte(item, 0) <= item.len()
 }
 
 // "Kind 3 day: .. 0 to 36,524. Kind 4 quantity: .. any value."
 #[tactic(auto, unfolding(model::specs::Forms::number_form, model::specs::Bytes::choose))]
-fn number_form(s: &[u8], at: usize) -> bool
-    requires { at + 6 ≤ length s.now }
-    ensures { result ≡ number_form s.now at }
+fn number_form(item: &[u8]) -> bool
+    requires { 6 ≤ length item.now }
+    ensures { result ≡ number_form item.now 0 }
 {
-    match Kind::of(s[at + 1]) {
-        Some(Kind::Day) => wire::u32_at(s, at + 2) <= limits::LAST_DAY,
+    match Kind::of(item[KIND]) {
+        Some(Kind::Day) => wire::u32_at(item, VALUE) <= limits::LAST_DAY,
         Some(Kind::Quantity) => true,
         _ => false,
     }
 }
 
 #[tactic(auto, unfolding(model::specs::Forms::value_form, model::specs::Readings::item_end, model::specs::Bytes::both, model::specs::Bytes::choose))]
-fn value_form(s: &[u8], at: usize) -> bool
-    requires { (item_end s.now at ≤ length s.now) × (2 ≤ byte_at s.now at) }
-    ensures { result ≡ value_form s.now at }
+fn value_form(item: &[u8]) -> bool
+    requires { (item_end item.now 0 ≤ length item.now) × (2 ≤ byte_at item.now 0) }
+    ensures { result ≡ value_form item.now 0 }
 {
-    let n = wire::byte(s, at);
-    if labels::has_label(wire::byte(s, at + 1)) {
-        wire::label_form(s, at + 2, n - 1)
+    let n = wire::byte(item, 0);
+    if labels::has_label(wire::byte(item, KIND)) {
+        wire::label_form(item, VALUE, n - 1)
     } else {
-        n == 5 && number_form(s, at)
+        n == 5 && number_form(item)
     }
 }
+
+// The constant's form. One of right form ends by the end of the bytes.
+#[tactic(auto, using(crate::proofs::FormFacts::form_tests))]
+pub fn form(item: &[u8]) -> bool
+    ensures form { result ≡ constant_right item.now }
+    ensures within { constant_right item.now ≡ true → 1 + byte_at item.now 0 ≤ length item.now }
+{
+    item_there(item) && 2 <= wire::byte(item, 0) && value_form(item)
+}
+
+// Two constants of right form are alike in kind and value.
+#[tactic(auto, using(crate::proofs::Buckets::constant_facts), unfolding(model::specs::Readings::item_end))]
+pub fn alike(item: &[u8], other: &[u8]) -> bool
+    requires { (constant_right item.now ≡ true) × (constant_right other.now ≡ true) }
+    ensures { result ≡ constants_same item.now other.now }
+{
+    let kind = wire::byte(item, KIND);
+    if kind != wire::byte(other, KIND) {
+        return false;
+    }
+    if labels::has_label(kind) {
+        let n = wire::byte(item, 0);
+        n == wire::byte(other, 0) && labels::alike(item, VALUE, other, VALUE, n - 1)
+    } else {
+        wire::u32_at(item, VALUE) == wire::u32_at(other, VALUE)
+    }
+}
+
+// Into which bucket a constant of right form falls: by its label, or by its number.
+#[tactic(auto, using(crate::proofs::Buckets::constant_facts), unfolding(model::specs::Readings::item_end))]
+fn bucket(item: &[u8]) -> usize
+    requires { constant_right item.now ≡ true }
+    ensures { (result ≡ constant_bucket (constant_read_at item.now 0)) × (result < buckets) }
+{
+    if labels::has_label(wire::byte(item, KIND)) {
+        labels::hash(item, VALUE, wire::byte(item, 0) - 1)
+    } else {
+        wire::u32_at(item, VALUE) % labels::BUCKETS
+    }
+}
+
+// ---- the list
 
 // A link for each bucket and constant, and one for "none". A const argument cannot be computed, but it can be named.
 const LINKS: usize = labels::BUCKETS + limits::CONSTANTS + 1;
@@ -54,47 +105,30 @@ const LINKS: usize = labels::BUCKETS + limits::CONSTANTS + 1;
 struct Constant;
 
 impl Named for Constant {
-    ghost form_at = { constant_form };
+    ghost form_of = { constant_right };
 
-    ghost alike_at = { λ s q p. alike_constants (constant_read_at s q) (constant_read_at s p) };
+    ghost alike_of = { constants_same };
 
-    ghost bucket_at = { λ s at. constant_bucket (constant_read_at s at) };
+    ghost bucket_of = { λ s. constant_bucket (constant_read_at s 0) };
 
-    #[tactic(auto, using(crate::proofs::FormFacts::form_tests))]
-    fn form(s: &[u8], at: usize) -> bool {
-        item_there(s, at) && 2 <= wire::byte(s, at) && value_form(s, at)
+    fn form(item: &[u8]) -> bool {
+        form(item)
     }
 
-    // Alike in kind and value.
-    #[tactic(auto, using(crate::proofs::Buckets::constant_facts), unfolding(model::specs::Readings::item_end))]
-    fn alike(s: &[u8], q: usize, p: usize) -> bool {
-        let kind = wire::byte(s, q + 1);
-        if kind != wire::byte(s, p + 1) {
-            return false;
-        }
-        if labels::has_label(kind) {
-            let n = wire::byte(s, q);
-            n == wire::byte(s, p) && labels::alike(s, q + 2, s, p + 2, n - 1)
-        } else {
-            wire::u32_at(s, q + 2) == wire::u32_at(s, p + 2)
-        }
+    fn alike(item: &[u8], other: &[u8]) -> bool {
+        alike(item, other)
     }
 
-    // By its label, or by its number.
-    #[tactic(auto, using(crate::proofs::Buckets::constant_facts), unfolding(model::specs::Readings::item_end))]
-    fn bucket(s: &[u8], at: usize) -> usize {
-        if labels::has_label(wire::byte(s, at + 1)) {
-            labels::hash(s, at + 2, wire::byte(s, at) - 1)
-        } else {
-            wire::u32_at(s, at + 2) % labels::BUCKETS
-        }
+    #[tactic(auto, using(crate::proofs::Buckets::constants_apart))]
+    fn bucket(item: &[u8]) -> usize {
+        bucket(item)
     }
 }
 
-// "Constants (1 to 255, numbered from 0)", their count at p.
-pub fn constants(s: &[u8], p: usize) -> Result<usize, Refusal>
-    requires { p ≤ farthest }
-    ensures { step_of result ≡ step (list_at s.now 1 max_constants (constant_item s.now) p) }
+// "Constants (1 to 255, numbered from 0)", their count at `at`.
+pub fn constants(bytes: &[u8], at: usize) -> Result<usize, Refusal>
+    requires { at ≤ farthest }
+    ensures { step_of result ≡ step (list_at bytes.now 1 max_constants (constant_item bytes.now) at) }
 {
-    named::list::<Constant, { limits::CONSTANTS }, { LINKS }>(s, 1, p)
+    named::list::<Constant, { limits::CONSTANTS }, { LINKS }>(bytes, 1, at)
 }

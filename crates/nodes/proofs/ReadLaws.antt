@@ -3,7 +3,7 @@ use mathlib.Core.Path.{◌≡◌, refl, sym, ◌∙◌, ap, subst}
 use mathlib.Core.Logic.{◌↔◌, ⊎_elim}
 use mathlib.Core.Bool.{Bool, true, false}
 use mathlib.Core.List.Memᴰ
-use mathlib.Core.List.{List, [], ◌∷◌, ◌++◌, append_assoc, map, map-append}
+use mathlib.Core.List.{List, [], ◌∷◌, ◌++◌, map, map-append}
 use Prim.Native.Nat.{ℕ, zero, suc, ◌+◌}
 use native.Mathlib.Omega.{arith}
 use lib.ListN.{length}
@@ -17,6 +17,7 @@ use Rattle.model.specs.Bytes.{byte_at, choose, Reading, got, refused, and_then}
 use Rattle.model.specs.Readings.{expr_at, fact_at, constraint_at}
 use Rattle.model.specs.Forms as forms
 use Rattle.model.specs.Nodes.{parts_form, variable_form, check_parts, fitted, check_says, check_test, check_by, check_node}
+use Rattle.model.proofs.ListFacts.{each_append}
 use Rattle.wire.proofs.Reading.{choose_true, choose_false, both_first, both_second, past_end}
 use Rattle.kinds.specs.Cells.{Cells, Ask, feed, nothing}
 use Rattle.kinds.specs.Asks.{ask_place, ask_test, asks_for, Regular}
@@ -38,10 +39,6 @@ use Rattle.nodes.specs.declared.shape.Shape.TheVariants.{Says, Test, All, Any, N
 use Rattle.nodes.proofs.TreeLaws.{by_bool, named, sort_is}
 
 -- ---- what two items ask together
-
-each_append : {A B : Type 0} (f : A → List B) (xs ys : List A) → each (xs ++ ys) f ≡ each xs f ++ each ys f
-each_append f [] ys = refl
-each_append {B = B} f (x ∷ xs) ys = ap (λ (l : List B). f x ++ l) (each_append f xs ys) ∙ sym (append_assoc (f x) (each xs f) (each ys f))
 
 module _ (cs : List Constant) where
   meets_joined : (κ : List ℕ) (D E : Demands) → MeetsAll κ (asks_for cs (joined D E)) ↔ (MeetsAll κ (asks_for cs D) × MeetsAll κ (asks_for cs E))
@@ -212,7 +209,7 @@ module _ {cs : List Constant} {vs : List Verb} {ks sg : List ℕ} (X : Tables cs
       → (at : ℕ) (t : Cells) (D : Demands) → State cs t D
       → Reads cs (formed_of ks sg s k f at t) (check_by cs vs s (named k) h D at)
   unfolding own_form read_of check_by says_in
-  reads_of (Some Says) f h a at t D S = rw (form_is X s (length s) (at + 3)) (reads_says (forms.fact_form vs s (length s) (at + 3)) at t D S)
+  reads_of (Some Says) f h a at t D S = rw (form_is X s (at + 3)) (reads_says (forms.fact_form vs s (length s) (at + 3)) at t D S)
   reads_of (Some Test) f h a at t D S = reads_test at t D S
   reads_of (Some All) f h a at t D S = reads_formed cs (parts_form s (at + 1)) _ _ at (reads_parts cs f h a (byte_at s (at + 1)) (at + 2) t D S)
   reads_of (Some Any) f h a at t D S = reads_formed cs (parts_form s (at + 1)) _ _ at (reads_parts cs f h a (byte_at s (at + 1)) (at + 2) t D S)

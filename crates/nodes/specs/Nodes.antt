@@ -65,7 +65,7 @@ module _ (ks sg s : List ℕ) where
   says_to (Err NoVerb) at t = stop reasons.Unfit at
 
   unfoldable pub says_in : ℕ → Cells → Result Reached Refusal
-  says_in at t = says_to (fact_form_by sg s (length s) (at + 3)) at t
+  says_in at t = says_to (fact_form_by sg s (at + 3)) at t
 
   -- by its shape, the nodes inside it read by f
   unfoldable pub read_of : Shape → (ℕ → Cells → Result Reached Refusal) → ℕ → Cells → Result Reached Refusal

@@ -29,26 +29,26 @@ pub struct Reached {
 
 // "count byte 1 to 8"
 #[tactic(auto, unfolding(model::specs::Nodes::parts_form, model::specs::Bytes::both, model::specs::Bytes::choose))]
-fn parts_form(s: &[u8], p: usize) -> bool
-    ensures { result ≡ parts_form s.now p }
+fn parts_form(bytes: &[u8], at: usize) -> bool
+    ensures { result ≡ parts_form bytes.now at }
 {
-    (1..=limits::PARTS).contains(&wire::byte_or(s, p))
+    (1..=limits::PARTS).contains(&wire::byte_or(bytes, at))
 }
 
 // "variable byte 0 to 7"
 #[tactic(auto, unfolding(model::specs::Nodes::variable_form, model::specs::Bytes::both, model::specs::Bytes::choose))]
-fn variable_form(s: &[u8], p: usize) -> bool
-    ensures { result ≡ variable_form s.now p }
+fn variable_form(bytes: &[u8], at: usize) -> bool
+    ensures { result ≡ variable_form bytes.now at }
 {
-    p < s.len() && wire::byte_or(s, p) <= LAST_VARIABLE
+    at < bytes.len() && wire::byte_or(bytes, at) <= LAST_VARIABLE
 }
 
-// The item at `at` that ends at e, by its kinds.
-fn fitted(fit: Option<Cells>, at: usize, e: usize) -> Result<Reached, Refusal>
-    ensures { result ≡ fits_to fit at e }
+// The item at `at` that ends at `end`, by its kinds.
+fn fitted(fit: Option<Cells>, at: usize, end: usize) -> Result<Reached, Refusal>
+    ensures { result ≡ fits_to fit at end }
 {
     let cells = fit.ok_or(Reason::Unfit.at(at))?;
-    Ok(Reached { at: e, cells })
+    Ok(Reached { at: end, cells })
 }
 
 // Nodes, after items that left the cells of `from`.
@@ -74,8 +74,8 @@ impl Tree<'_> {
         ensures { result ≡ feed (says_asks kinds.now self.now.text.signatures.now self.now.text.bytes.now from.at) from.cells }
     {
         let issuer = self.text.place_at(kinds, from.at + 1)?;
-        let u = kinds::alike(from.cells, issuer, Term::Any(Kind::Principal))?;
-        self.text.fact_fit(kinds, from.at + 3, u)
+        let cells = kinds::alike(from.cells, issuer, Term::Any(Kind::Principal))?;
+        self.text.fact_fit(kinds, from.at + 3, cells)
     }
 
     // A says node: issuer and fact.
@@ -84,8 +84,8 @@ impl Tree<'_> {
         requires { from.at ≤ longest }
         ensures { result ≡ says_in kinds.now self.now.text.signatures.now self.now.text.bytes.now from.at from.cells }
     {
-        match self.text.fact_form(self.text.bytes.len(), from.at + 3) {
-            Ok(e) => fitted(self.says_fit(kinds, from), from.at, e),
+        match self.text.fact_form(from.at + 3) {
+            Ok(end) => fitted(self.says_fit(kinds, from), from.at, end),
             Err(Fault::Broken) => Err(Reason::Form.at(from.at)),
             Err(Fault::NoVerb) => Err(Reason::Unfit.at(from.at)),
         }
@@ -104,16 +104,16 @@ impl Tree<'_> {
         fitted(self.text.test_fit(kinds, at + 1, cells), at, at + 6)
     }
 
-    // A node that may hold others d - 1 deep. No walk as in `walk`: where reading goes on is what the node before says.
+    // A node that may hold others `depth - 1` deep. No walk as in `walk`: where reading goes on is what the node before says.
     // It calls itself: the tree is in the bytes and there is no heap; a level of it is left at each call.
     #[cycle(node_parts)]
     #[tactic(auto, using(crate::proofs::NodeSteps::read_steps))]
-    pub fn node(&self, kinds: &[u8], d: usize, from: Reached) -> Result<Reached, Refusal>
-        ensures { result ≡ read_in kinds.now self.now.text.signatures.now self.now.text.bytes.now d from.at from.cells }
+    pub fn node(&self, kinds: &[u8], depth: usize, from: Reached) -> Result<Reached, Refusal>
+        ensures { result ≡ read_in kinds.now self.now.text.signatures.now self.now.text.bytes.now depth from.at from.cells }
     {
         let Reached { at, cells } = from;
         let form = Reason::Form.at(at);
-        if d == 0 {
+        if depth == 0 {
             return Err(form);
         }
         let shape = self.shape_at(at).ok_or(form)?;
@@ -125,22 +125,22 @@ impl Tree<'_> {
             Shape::Test => self.test_at(kinds, from),
             Shape::All | Shape::Any => {
                 let n = wire::byte_or(self.text.bytes, at + 1);
-                self.parts(kinds, d - 1, n, Reached { at: at + 2, cells })
+                self.parts(kinds, depth - 1, n, Reached { at: at + 2, cells })
             }
-            Shape::Not => self.node(kinds, d - 1, Reached { at: at + 1, cells }),
-            Shape::Exists => self.node(kinds, d - 1, Reached { at: at + 2, cells }),
+            Shape::Not => self.node(kinds, depth - 1, Reached { at: at + 1, cells }),
+            Shape::Exists => self.node(kinds, depth - 1, Reached { at: at + 2, cells }),
         }
     }
 
     // n nodes.
     #[cycle(node_parts)]
     #[tactic(auto, using(crate::proofs::NodeSteps::read_steps))]
-    fn parts(&self, kinds: &[u8], d: usize, n: usize, from: Reached) -> Result<Reached, Refusal>
-        ensures { result ≡ reads_by (read_in kinds.now self.now.text.signatures.now self.now.text.bytes.now d) n from.at from.cells }
+    fn parts(&self, kinds: &[u8], depth: usize, n: usize, from: Reached) -> Result<Reached, Refusal>
+        ensures { result ≡ reads_by (read_in kinds.now self.now.text.signatures.now self.now.text.bytes.now depth) n from.at from.cells }
     {
         let mut reached = from;
         for _ in 0..n {
-            reached = self.node(kinds, d, reached)?;
+            reached = self.node(kinds, depth, reached)?;
         }
         Ok(reached)
     }

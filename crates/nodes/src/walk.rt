@@ -27,13 +27,13 @@ pub trait Visit {
         requires { at ≤ longest }
         ensures { result ≡ (steps self.now).at_test (constraint_at text.entry.bytes.now (at + 1)) state };
 
-    // Before the node of an exists of variable v.
-    fn enter(&self, v: usize, state: Self::State) -> Self::State
-        ensures { result ≡ (steps self.now).enter v state };
+    // Before the node of an exists of this variable.
+    fn enter(&self, variable: usize, state: Self::State) -> Self::State
+        ensures { result ≡ (steps self.now).enter variable state };
 
     // And after it, where `before` was the state.
-    fn leave(&self, v: usize, before: Self::State, state: Self::State) -> Self::State
-        ensures { result ≡ (steps self.now).leave v before state };
+    fn leave(&self, variable: usize, before: Self::State, state: Self::State) -> Self::State
+        ensures { result ≡ (steps self.now).leave variable before state };
 }
 
 impl Tree<'_> {
@@ -60,9 +60,13 @@ impl Tree<'_> {
             ),
             Shape::Not => self.walk(visit, Place { depth, at: at + 1 }, state),
             Shape::Exists => {
-                let v = wire::byte_or(self.text.bytes, at + 1);
-                let inside = self.walk(visit, Place { depth, at: at + 2 }, visit.enter(v, state));
-                visit.leave(v, state, inside)
+                let variable = wire::byte_or(self.text.bytes, at + 1);
+                let inside = self.walk(
+                    visit,
+                    Place { depth, at: at + 2 },
+                    visit.enter(variable, state),
+                );
+                visit.leave(variable, state, inside)
             }
         }
     }
@@ -75,14 +79,14 @@ impl Tree<'_> {
             (nodes_in self.now.text.signatures.now self.now.text.bytes.now place.depth n place.at) state }
     {
         let mut at = place.at;
-        let mut u = state;
+        let mut walked = state;
         for _ in 0..n {
             let part = Place { at, ..place };
             // a local of its own: the check covers no array that is laid where an argument was
-            let more = self.walk(visit, part, u);
-            u = more;
+            let more = self.walk(visit, part, walked);
+            walked = more;
             at = self.node_end(part);
         }
-        u
+        walked
     }
 }

@@ -48,20 +48,20 @@ pub struct Report {
 
 // ---- each function writes to `out` from `at` on, and answers where what it wrote ends: the buffer is lent and its bytes are promised, so no Display
 
-fn word(out: &mut [u8], at: usize, w: &[u8]) -> usize
-    requires { at + length w.now ≤ length out.old }
-    ensures { Wrote out.old out.new at result (at + length w.now) (take at out.old ++ w.now) }
+fn word(out: &mut [u8], at: usize, text: &[u8]) -> usize
+    requires { at + length text.now ≤ length out.old }
+    ensures { Wrote out.old out.new at result (at + length text.now) (take at out.old ++ text.now) }
 {
-    let end = at + w.len();
-    out[at..end].copy_from_slice(w);
+    let end = at + text.len();
+    out[at..end].copy_from_slice(text);
     end
 }
 
-fn digit(d: usize) -> u8
-    requires { d < 10 }
-    ensures { result ≡ 48 + d }
+fn digit(value: usize) -> u8
+    requires { value < 10 }
+    ensures { result ≡ 48 + value }
 {
-    48 + d as u8
+    48 + value as u8
 }
 
 // The digits of n, the last of them after those of n / 10. It calls itself: the first digit is written first and found last.
@@ -81,12 +81,12 @@ fn digits(out: &mut [u8], at: usize, n: usize) -> usize
 
 // A word and a number, which has 20 digits at most.
 #[tactic(auto, using(crate::proofs::Decimals::twenty, crate::proofs::Lines::labelled_is))]
-fn labelled(out: &mut [u8], at: usize, w: &[u8], n: usize) -> usize
-    requires { at + length w.now + 20 ≤ length out.old }
-    ensures { Wrote out.old out.new at result (at + length w.now + 20)
-        (take at out.old ++ w.now ++ decimal n) }
+fn labelled(out: &mut [u8], at: usize, text: &[u8], n: usize) -> usize
+    requires { at + length text.now + 20 ≤ length out.old }
+    ensures { Wrote out.old out.new at result (at + length text.now + 20)
+        (take at out.old ++ text.now ++ decimal n) }
 {
-    let end = word(out, at, w);
+    let end = word(out, at, text);
     digits(out, end, n)
 }
 
@@ -128,12 +128,12 @@ fn refusal(out: &mut [u8], number: u8, side: Option<Side>, place: usize) -> usiz
 }
 
 // Writes the line of an outcome to the front of `out`, and answers how long it is. The first clause is for a caller who lends `out[..r]` on.
-pub fn line(o: Outcome, out: &mut [u8; 96]) -> usize
+pub fn line(outcome: Outcome, out: &mut [u8; 96]) -> usize
     ensures upper_bound { (result ≤ length out.new) × (result ≡ length (take result out.new)) }
-    ensures out_after { take result out.new ≡ line_of (report_of o [] []) }
+    ensures out_after { take result out.new ≡ line_of (report_of outcome [] []) }
     ensures out_unchanged { drop result out.new ≡ drop result out.old }
 {
-    match o {
+    match outcome {
         Outcome::Allow(facts, rounds, answers) => {
             let end = word(out, 0, b"allow");
             counted(out, end, facts, rounds, answers)

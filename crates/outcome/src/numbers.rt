@@ -35,11 +35,11 @@ pub fn refused(side: Side, why: Refusal) -> Report
 }
 
 // "the promises use a definition that gives this paper's number and values for each case of the enum"; a function and no `From`, which could ask nothing
-pub fn in_numbers(o: Outcome) -> Report
-    requires { ((report_of o [] []).facts < 4294967296) × ((report_of o [] []).rounds < 4294967296) }
-    ensures { result ≡ numbers_of (report_of o [] []) }
+pub fn in_numbers(outcome: Outcome) -> Report
+    requires { ((report_of outcome [] []).facts < 4294967296) × ((report_of outcome [] []).rounds < 4294967296) }
+    ensures { result ≡ numbers_of (report_of outcome [] []) }
 {
-    match o {
+    match outcome {
         Outcome::Allow(facts, rounds, answers) => told(1, facts, rounds, answers),
         Outcome::Deny(facts, rounds) => told(2, facts, rounds, 0),
         Outcome::Refused(side, why) => refused(side, why),

@@ -1,6 +1,6 @@
 -- Each recursive definition of the specification, one step on, as the code's loops take it, and at their end.
 use Rattle.std.proofs.Common.{◌≡◌, ℕ, suc, ◌+◌, ◌-◌, ◌*◌, ◌<◌, ◌≤◌, Bool, true, false, ◌&&◌, List, ◌||◌, nat_lt, if◌then◌else◌}
-use Rattle.std.proofs.Common.{Some, option_and_then, Ok, Err, refl, arith}
+use Rattle.std.proofs.Common.{length, Some, option_and_then, Ok, Err, refl, arith}
 use Rattle.model.specs.Bytes.{byte_at, both, choose}
 use Rattle.model.specs.Forms.{operator_form, operators_form}
 use Rattle.kinds.specs.Cells.{Cells, feed}
@@ -33,21 +33,21 @@ module _ (sg s : List ℕ) (n i p : ℕ) where
 
 -- ---- form
 
-module _ (sg s : List ℕ) (e n i p : ℕ) where
-  pub levels_step : i < n → levels_form_by sg s e (n - i) (p + 3 * i)
-      ≡ (if nat_lt e (p + 3 * i + 3) || nat_lt 1 (byte_at s (p + 3 * i + 2)) then Err Broken else levels_form_by sg s e (n - (i + 1)) (p + 3 * (i + 1)))
+module _ (sg s : List ℕ) (n i p : ℕ) where
+  pub levels_step : i < n → levels_form_by sg s (n - i) (p + 3 * i)
+      ≡ (if nat_lt (length s) (p + 3 * i + 3) || nat_lt 1 (byte_at s (p + 3 * i + 2)) then Err Broken else levels_form_by sg s (n - (i + 1)) (p + 3 * (i + 1)))
   unfolding levels_form_by
   levels_step h = rw (left n i h, ← next p 3 i)
 
-  pub levels_end : n ≤ i → levels_form_by sg s e (n - i) p ≡ phrase_form_by sg s e p
+  pub levels_end : n ≤ i → levels_form_by sg s (n - i) p ≡ phrase_form_by sg s p
   unfolding levels_form_by
   levels_end h = rw (done n i h)
 
-  pub forms_step : i < n → facts_form_by sg s e (n - i) p ≡ then_by (fact_form_by sg s e p) (facts_form_by sg s e (n - (i + 1)))
+  pub forms_step : i < n → facts_form_by sg s (n - i) p ≡ then_by (fact_form_by sg s p) (facts_form_by sg s (n - (i + 1)))
   unfolding facts_form_by
   forms_step h = rw (left n i h)
 
-  pub forms_end : n ≤ i → facts_form_by sg s e (n - i) p ≡ Ok p
+  pub forms_end : n ≤ i → facts_form_by sg s (n - i) p ≡ Ok p
   unfolding facts_form_by
   forms_end h = rw (done n i h)
 

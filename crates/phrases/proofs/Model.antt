@@ -135,7 +135,10 @@ module _ {cs : List Constant} {vs : List Verb} {ks sg : List ℕ} (X : Tables cs
 
   -- ---- form
 
-  module _ (s : List ℕ) (e : ℕ) where
+  module _ (s : List ℕ) where
+    abbrev e : ℕ
+    e = length s
+
     abbrev spans : ℕ → ℕ → forms.Form
     spans p a = choose (ltb e (p + 3 + 2 * a)) forms.broken (forms.ends (p + 3 + 2 * a))
 
@@ -153,26 +156,26 @@ module _ {cs : List Constant} {vs : List Verb} {ks sg : List ℕ} (X : Tables cs
             rw (ne_eqb (byte_at sg (4 * v)) 0 (λ z. omega arith), q, le-ltb (length vs) v (omega arith))
             (sym (code_choose (ltb e (p + 3 + 2 * arity_of vs v)) forms.broken (forms.ends (p + 3 + 2 * arity_of vs v))))
 
-    phrase_is : (p : ℕ) → phrase_form_by sg s e p ≡ code_form (phrase_form vs s e p)
+    phrase_is : (p : ℕ) → phrase_form_by sg s p ≡ code_form (phrase_form vs s e p)
     unfolding phrase_form_by phrase_form
     phrase_is p =
         let v = byte_at s (p + 2) in
         ap (cond (ltb e (p + 3)) (Err Broken)) (verb_is p v ∙ sym (code_choose (ltb (length vs) v) forms.no_verb (spans p (arity_of vs v))))
         ∙ sym (code_choose (ltb e (p + 3)) forms.broken _)
 
-    levels_form_law : (m p : ℕ) → levels_form_by sg s e m p ≡ code_form (levels_form vs s e m p)
+    levels_form_law : (m p : ℕ) → levels_form_by sg s m p ≡ code_form (levels_form vs s e m p)
     unfolding levels_form_by levels_form
     levels_form_law zero p = phrase_is p
     levels_form_law (suc m) p = rw (levels_form_law m (p + 3)) (code_either (ltb e (p + 3)) (ltb 1 (byte_at s (p + 2))) (levels_form vs s e m (p + 3)))
 
-    pub form_is : (p : ℕ) → fact_form_by sg s e p ≡ code_form (fact_form vs s e p)
+    pub form_is : (p : ℕ) → fact_form_by sg s p ≡ code_form (fact_form vs s e p)
     unfolding fact_form_by fact_form
     form_is p = rw (levels_form_law (byte_at s p) (p + 1)) (code_either (leb e p) (ltb 3 (byte_at s p)) (levels_form vs s e (byte_at s p) (p + 1)))
 
-    pub forms_are : (n p : ℕ) → facts_form_by sg s e n p ≡ code_form (facts_form vs s e n p)
+    pub forms_are : (n p : ℕ) → facts_form_by sg s n p ≡ code_form (facts_form vs s e n p)
     unfolding facts_form_by facts_form
     forms_are zero p = refl
-    forms_are (suc n) p = then_code (fact_form_by sg s e p) (fact_form vs s e p) (facts_form_by sg s e n) (facts_form vs s e n) (form_is p) (λ q. forms_are n q)
+    forms_are (suc n) p = then_code (fact_form_by sg s p) (fact_form vs s e p) (facts_form_by sg s n) (facts_form vs s e n) (form_is p) (λ q. forms_are n q)
 
   -- ---- kinds
 

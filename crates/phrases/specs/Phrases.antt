@@ -1,5 +1,6 @@
 -- Facts and constraints as the code reads them, by the two tables: what they are, where they end, their form, and what they ask of the kinds.
-use Rattle.std.specs.Prelude.{ℕ, zero, suc, ◌+◌, ◌-◌, ◌*◌, List, [], ◌∷◌, ◌++◌, ◌||◌, ◌==◌, nat_lt, nat_le, if◌then◌else◌, Option, Some, None, Result, Ok, Err}
+use Rattle.std.specs.Prelude.{ℕ, zero, suc, ◌+◌, ◌-◌, ◌*◌, List, [], ◌∷◌, ◌++◌, ◌||◌, ◌==◌, nat_lt, nat_le, if◌then◌else◌, length}
+use Rattle.std.specs.Prelude.{Option, Some, None, Result, Ok, Err}
 use Rattle.model.specs.Limits.{max_nest, unlimited, first_variable, today_code}
 use Rattle.model.specs.Syntax.{Expr, Fact, flat, can_say}
 use Rattle.model.specs.Bytes.{byte_at, u16_at}
@@ -53,21 +54,21 @@ abbrev pub then_by : Result ℕ Fault → (ℕ → Result ℕ Fault) → Result 
 then_by (Ok p) f = f p
 then_by (Err x) f = Err x
 
--- in an item that ends at e
-module _ (sg s : List ℕ) (e : ℕ) where
+-- in an item that ends with its bytes
+module _ (sg s : List ℕ) where
   unfoldable pub phrase_form_by : ℕ → Result ℕ Fault
   phrase_form_by p =
-      if nat_lt e (p + 3) then Err Broken
+      if nat_lt (length s) (p + 3) then Err Broken
       else if byte_at sg (4 * byte_at s (p + 2)) == 0 then Err NoVerb
-      else if nat_lt e (p + 1 + 2 * byte_at sg (4 * byte_at s (p + 2))) then Err Broken
+      else if nat_lt (length s) (p + 1 + 2 * byte_at sg (4 * byte_at s (p + 2))) then Err Broken
       else Ok (p + 1 + 2 * byte_at sg (4 * byte_at s (p + 2)))
 
   unfoldable pub levels_form_by : ℕ → ℕ → Result ℕ Fault
   levels_form_by zero p = phrase_form_by p
-  levels_form_by (suc m) p = if nat_lt e (p + 3) || nat_lt unlimited (byte_at s (p + 2)) then Err Broken else levels_form_by m (p + 3)
+  levels_form_by (suc m) p = if nat_lt (length s) (p + 3) || nat_lt unlimited (byte_at s (p + 2)) then Err Broken else levels_form_by m (p + 3)
 
   unfoldable pub fact_form_by : ℕ → Result ℕ Fault
-  fact_form_by p = if nat_le e p || nat_lt max_nest (byte_at s p) then Err Broken else levels_form_by (byte_at s p) (p + 1)
+  fact_form_by p = if nat_le (length s) p || nat_lt max_nest (byte_at s p) then Err Broken else levels_form_by (byte_at s p) (p + 1)
 
   unfoldable pub facts_form_by : ℕ → ℕ → Result ℕ Fault
   facts_form_by zero p = Ok p

@@ -1,6 +1,5 @@
 -- The label of a constant is a part of the policy's bytes.
 use mathlib.Core.Path.{◌≡◌, refl, sym, ◌∙◌, ap}
-use mathlib.Core.Logic.Dec
 use Rattle.std.specs.Prelude.{Result, Ok, Err, if◌then◌else◌}
 use mathlib.Core.Bool.{Bool, true, false}
 use mathlib.Core.List.{List, [], map}
@@ -16,8 +15,8 @@ use Rattle.model.specs.Kinds.{no_constant}
 use Rattle.model.specs.Bytes.{byte_at, u16_at, Reading, got}
 use Rattle.model.specs.Readings.{item_end, ends_by, has_label, constant_read_at}
 use Rattle.model.specs.Forms.{constant_form}
-use Rattle.model.specs.Policies.{Item, contents, headed, ended, constant_item, Accepted, assertions_from, verbs_from, constants_from, read_policy}
-use Rattle.model.proofs.ReadFacts.{choose_yes, and_then_got}
+use Rattle.model.specs.Policies.{Item, contents, constant_item, Accepted, read_policy}
+use Rattle.model.proofs.ReadFacts.{accepted_lists}
 use Rattle.policy.specs.declared.Index.{Index}
 use Rattle.policy.specs.declared.Part.{Part}
 use Rattle.slices.specs.Items.{constants_at}
@@ -26,9 +25,7 @@ use Rattle.names.proofs.FormFacts.{constant_within, constant_two}
 use Rattle.slices.proofs.ListFacts.{list_got, items_length, items_starts, contents_at, contents_length, starts_at_law}
 use Rattle.names.proofs.ItemFacts.{constant_reads}
 use Rattle.policy.proofs.TableFacts.{held_at, kind_is}
-use Rattle.policy.proofs.PolicyFacts.{Constants, constants_counted, constants_right, accepted_by, index_got, refused_got}
-use Rattle.model.proofs.PolicyReader.{policy_is}
-use Rattle.model.specs.Policies.{computed_policy}
+use Rattle.policy.proofs.PolicyFacts.{Constants, ConstantsRight, constants_counted, constants_right, accepted_by, index_got, refused_got}
 use Rattle.model.proofs.ByteFacts.{part_is}
 
 -- ---- what an accepted policy has
@@ -36,21 +33,14 @@ use Rattle.model.proofs.ByteFacts.{part_is}
 record Read (s : List ℕ) (A : Accepted) : Type 0 where
   constants : A.constants ≡ constants_at s (u16_at s 5) 7
   few : u16_at s 5 ≤ max_constants
-  right : (c : ℕ) → c < u16_at s 5 → constant_form s (ends_by (item_end s) c 7) ≡ true
+  right : ConstantsRight s
 
 read_got : (s : List ℕ) (A : Accepted) (e : ℕ) → read_policy s ≡ got A e → Read s A
-unfolding computed_policy headed constants_from verbs_from assertions_from ended
 read_got s A e h =
-    let r = (choose_yes _ _ 2 1 A e (choose_yes _ _ 1 0 A e (sym (policy_is s) ∙ h)).1).1 in
-    let c = and_then_got _ _ A e r in
-    let v = and_then_got _ _ A e c.3 in
-    let a = and_then_got _ _ A e v.3 in
-    let w = (choose_yes _ _ 3 a.1 A e a.3).1 in
-    let l = list_got s 1 max_constants (constant_item s) (constant_read_at s) (item_end s) (constant_reads s) 5 c.0 c.1 c.2 in
-    let k : Constants s c.1 = c.2 ∙ ap (λ (is : List (Item Constant)). got is c.1) l.0 in
-    let q : A ≡ record { version = byte_at s 0; constants = c.0; verbs = v.0; assertions = a.0 } = cc in
-    let x : A.constants ≡ c.0 = ap (λ (B : Accepted). B.constants) q in
-    record { constants = x ∙ l.0; few = (constants_counted s c.1 k).most; right = constants_right s c.1 k }
+    let L = accepted_lists s A e h in
+    let l = list_got s 1 max_constants (constant_item s) (constant_read_at s) (item_end s) (constant_reads s) 5 A.constants L.verbs_at L.constants in
+    let k : Constants s L.verbs_at = L.constants ∙ ap (λ (is : List (Item Constant)). got is L.verbs_at) l.0 in
+    record { constants = l.0; few = (constants_counted s L.verbs_at k).most; right = constants_right s L.verbs_at k }
 
 -- ---- by number
 

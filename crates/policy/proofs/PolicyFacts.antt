@@ -22,7 +22,7 @@ use Rattle.slices.specs.Steps.{Next, Refused, step}
 use Rattle.slices.specs.Items.{constants_at, verbs_at, assertions_at}
 use Rattle.slices.specs.Lists.{headed_at}
 use Rattle.policy.specs.Index.{verb_table, index_of, handed_out, kinds_at, signatures_at, index_at}
-use Rattle.assertions.specs.Assertions.{item_at, assertions_by}
+use Rattle.assertions.specs.Assertions.{check_by, assertions_by}
 use Rattle.slices.proofs.ListFacts.{Reads, Counted, step_refused, step_next, list_got, list_right, items_length, items_starts}
 use Rattle.slices.proofs.ListFacts.{contents_each}
 use Rattle.slices.proofs.ListSteps.{list_steps}
@@ -64,7 +64,7 @@ module _ (s : List ℕ) (cis : List (Item Constant)) (vis : List (Item Verb)) {k
   pub assertions_are : (p : ℕ) → assertions_by ks sg s p ≡ step (assertions_from s cis vis p)
   unfolding assertions_by assertions_from
   assertions_are p =
-      list_steps s (assertion_item (contents cis) (contents vis) s) (item_at ks sg s) (item_is X s) (made s cis vis) 0 max_assertions p
+      list_steps s (assertion_item (contents cis) (contents vis) s) (check_by ks sg) (item_is X s) (made s cis vis) 0 max_assertions p
 
 -- ---- the tables of a policy whose constants and verbs are in order
 
@@ -75,6 +75,10 @@ Constants s p = list_at s 1 max_constants (constant_item s) 5 ≡ got (constants
 abbrev pub Verbs : List ℕ → ℕ → ℕ → Type 0
 Verbs s p q = list_at s 0 max_verbs (verb_item s) p ≡ got (verbs_at s (u16_at s p) (p + 2)) q
 
+-- each constant of the list has right form
+abbrev pub ConstantsRight : List ℕ → Type 0
+ConstantsRight s = (j : ℕ) → j < u16_at s 5 → constant_form s (ends_by (item_end s) j 7) ≡ true
+
 module _ (s : List ℕ) (p : ℕ) (K : Constants s p) where
   pub constants_within : p ≤ length s
   constants_within = (list_got s 1 max_constants (constant_item s) (constant_read_at s) (item_end s) (constant_reads s) 5 _ p K).1
@@ -82,7 +86,7 @@ module _ (s : List ℕ) (p : ℕ) (K : Constants s p) where
   pub constants_counted : Counted s 1 max_constants 5
   constants_counted = (list_got s 1 max_constants (constant_item s) (constant_read_at s) (item_end s) (constant_reads s) 5 _ p K).2
 
-  pub constants_right : (j : ℕ) → j < u16_at s 5 → constant_form s (ends_by (item_end s) j 7) ≡ true
+  pub constants_right : ConstantsRight s
   constants_right =
       list_right s (constant_item s) (constant_read_at s) (item_end s) (constant_reads s) (λ at. constant_form s at ≡ true)
       (constant_right s) 1 max_constants 5 _ p K

@@ -89,9 +89,9 @@ fn label_part(policy: &[u8], constant: usize) -> Part
     ensures { result ≡ label_part (handed_out (read_policy policy.now)) policy.now constant }
 {
     match read(policy) {
-        Ok(x) => {
-            if constant < x.constants && labels::has_label(x.kinds[constant] as usize) {
-                let at = x.constant_at[constant];
+        Ok(index) => {
+            if constant < index.constants && labels::has_label(index.kinds[constant] as usize) {
+                let at = index.constant_at[constant];
                 return Part {
                     from: at + 2,
                     to: at + 1 + wire::byte_or(policy, at),

@@ -7,18 +7,18 @@ use std::{fs, io};
 
 const POLICIES: &str = "policies.bin";
 
-// The policy that `s` holds.
-fn case(rt: &impl Print, s: &[u8]) -> io::Result<()> {
-    match policy::read(s) {
+// One policy.
+fn case(rt: &impl Print, policy: &[u8]) -> io::Result<()> {
+    match policy::read(policy) {
         Ok(x) => println!(rt; "accepted {} {} {}", x.constants, x.verbs, x.assertions),
         Err(why) => println!(rt; "refused {} {}", why.reason.number(), why.place),
     }
 }
 
-// Those that stand in `b`, one after the other.
-fn cases(rt: &impl Print, b: &[u8]) -> io::Result<()> {
+// Policies that stand one after the other.
+fn cases(rt: &impl Print, policies: &[u8]) -> io::Result<()> {
     // no chunks: each policy says its own length
-    let mut left = b;
+    let mut left = policies;
     while let Some((length, behind)) = left.split_at_checked(2) {
         match behind.split_at_checked(wire::u16_at(length, 0)) {
             Some((policy, rest)) => {

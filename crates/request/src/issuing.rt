@@ -21,33 +21,33 @@ use phrases::marks::with_mark;
 pub type Marks = [u8; CONSTANTS];
 
 // "all the policy's principals join"
-fn with_principals(ks: &[u8], m: Marks) -> Marks
-    ensures { result ≡ marked (of_kind principal 0 (constants_by ks.now)) m }
+fn with_principals(kinds: &[u8], marks: Marks) -> Marks
+    ensures { result ≡ marked (of_kind principal 0 (constants_by kinds.now)) marks }
 {
-    let mut marks = m;
-    for (c, kind) in ks.iter().enumerate() {
+    let mut joined = marks;
+    for (c, kind) in kinds.iter().enumerate() {
         if Kind::of(*kind) == Some(Kind::Principal) {
             // a local of its own: the check covers no array that is laid where an argument was
-            let joined = with_mark(marks, c, 1);
-            marks = joined;
+            let more = with_mark(joined, c, 1);
+            joined = more;
         }
     }
-    marks
+    joined
 }
 
-// With the issuer at p: a constant, or a variable.
+// With the issuer at `at`: a constant, or a variable.
 #[tactic(auto, using(crate::proofs::IssuerSteps::issuer_steps))]
-fn with_issuer(ks: &[u8], s: &[u8], p: usize, m: Marks) -> Marks
-    requires { p ≤ farthest }
-    ensures { result ≡ marked (joining (world_by ks.now) (expr_at s.now p)) m }
+fn with_issuer(kinds: &[u8], request: &[u8], at: usize, marks: Marks) -> Marks
+    requires { at ≤ farthest }
+    ensures { result ≡ marked (joining (world_by kinds.now) (expr_at request.now at)) marks }
 {
-    let x = wire::u16_or(s, p);
-    if x == limits::TODAY {
-        m
-    } else if x < limits::FIRST_VARIABLE {
-        with_mark(m, x, 1)
+    let code = wire::u16_or(request, at);
+    if code == limits::TODAY {
+        marks
+    } else if code < limits::FIRST_VARIABLE {
+        with_mark(marks, code, 1)
     } else {
-        with_principals(ks, m)
+        with_principals(kinds, marks)
     }
 }
 
@@ -62,20 +62,20 @@ impl Visit for Joining<'_> {
 
     ghost steps = { λ w. issuer_steps (world_by w.kinds.now) };
 
-    fn says(&self, text: Text, at: usize, m: Marks) -> Marks {
-        with_issuer(self.kinds, text.bytes, at + 1, m)
+    fn says(&self, text: Text, at: usize, marks: Marks) -> Marks {
+        with_issuer(self.kinds, text.bytes, at + 1, marks)
     }
 
-    fn test(&self, _: Text, _: usize, m: Marks) -> Marks {
-        m
+    fn test(&self, _: Text, _: usize, marks: Marks) -> Marks {
+        marks
     }
 
-    fn enter(&self, _: usize, m: Marks) -> Marks {
-        m
+    fn enter(&self, _: usize, marks: Marks) -> Marks {
+        marks
     }
 
-    fn leave(&self, _: usize, _: Marks, m: Marks) -> Marks {
-        m
+    fn leave(&self, _: usize, _: Marks, marks: Marks) -> Marks {
+        marks
     }
 }
 

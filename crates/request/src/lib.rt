@@ -34,23 +34,23 @@ pub struct Request {
 }
 
 // The kind that a variable's cell stands for, if the variable is used.
-fn kind_in(t: Cells, used: Marks, v: usize) -> u8
-    requires { v < 8 }
-    ensures { result ≡ cell_kind t used v }
+fn kind_in(cells: Cells, used: Marks, variable: usize) -> u8
+    requires { variable < 8 }
+    ensures { result ≡ cell_kind cells used variable }
 {
-    match t[v] {
-        Cell::Settled(kind) if used[v] == 1 => kind.number(),
+    match cells[variable] {
+        Cell::Settled(kind) if used[variable] == 1 => kind.number(),
         _ => 0,
     }
 }
 
 // The same for all eight.
-fn kinds_in(t: Cells, used: Marks) -> [u8; VARIABLES]
-    ensures { result ≡ cell_kinds t used }
+fn kinds_in(cells: Cells, used: Marks) -> [u8; VARIABLES]
+    ensures { result ≡ cell_kinds cells used }
 {
     let mut kinds = [0; VARIABLES];
     for v in 0..VARIABLES {
-        kinds[v] = kind_in(t, used, v);
+        kinds[v] = kind_in(cells, used, v);
     }
     kinds
 }
@@ -60,9 +60,9 @@ fn kinds_in(t: Cells, used: Marks) -> [u8; VARIABLES]
 fn whole(kinds: &[u8], tree: &Tree) -> Result<Request, Refusal>
     ensures { result ≡ whole_in kinds.now tree.now.text.signatures.now tree.now.text.bytes.now }
 {
-    let s = tree.text.bytes;
-    let today = wire::u32_or(s, HEADER);
-    if s.len() < FIRST_NODE || limits::LAST_DAY < today {
+    let request = tree.text.bytes;
+    let today = wire::u32_or(request, HEADER);
+    if request.len() < FIRST_NODE || limits::LAST_DAY < today {
         return Err(Reason::Form.at(HEADER));
     }
     let from = Reached {
@@ -71,7 +71,7 @@ fn whole(kinds: &[u8], tree: &Tree) -> Result<Request, Refusal>
     };
     let node = tree.node(kinds, DEPTH, from)?;
     // No `slices::ended`: that promises the number of a reason, and here the refusal itself is promised.
-    if node.at != s.len() {
+    if node.at != request.len() {
         return Err(Reason::Form.at(node.at));
     }
     let judged = safety::judge(tree, WHOLE).ok_or(Reason::UnsafeRequest.at(FIRST_NODE))?;
@@ -80,32 +80,32 @@ fn whole(kinds: &[u8], tree: &Tree) -> Result<Request, Refusal>
     Ok(Request { today, kinds, free })
 }
 
-// The request s under a policy with the kinds ks of its constants and the rows sg of its verbs (crate phrases, specs/Tables).
+// The request under a policy with these kinds of its constants and rows of its verbs (crate phrases, specs/Tables).
 #[tactic(auto, using(crate::proofs::RequestLaws::header_refused, crate::proofs::RequestLaws::header_right))]
-pub fn read(ks: &[u8], sg: &[u8], s: &[u8]) -> Result<Request, Refusal>
-    ensures meant { (cs : List Constant) (vs : List Verb) → Tables cs vs ks.now sg.now
-        → said result ≡ answered vs (read_request cs vs s.now) }
-    ensures short { IfOk result (λ _. length s.now ≤ longest) }
+pub fn read(kinds: &[u8], signatures: &[u8], request: &[u8]) -> Result<Request, Refusal>
+    ensures meant { (cs : List Constant) (vs : List Verb) → Tables cs vs kinds.now signatures.now
+        → said result ≡ answered vs (read_request cs vs request.now) }
+    ensures short { IfOk result (λ _. length request.now ≤ longest) }
 {
-    slices::lists::headed(s, limits::VERSION)?;
+    slices::lists::headed(request, limits::VERSION)?;
     let text = Text {
-        signatures: sg,
-        bytes: s,
+        signatures,
+        bytes: request,
     };
-    whole(ks, &Tree { text })
+    whole(kinds, &Tree { text })
 }
 
 // "every issuer in the request's says nodes": 1 for each of the 255 possible constants that is one. A variable brings in all principals.
 #[inline(never)]
 #[tactic(auto, using(crate::proofs::IssuerLaws::issuers_are))]
-pub fn issuers(ks: &[u8], sg: &[u8], s: &[u8]) -> [u8; limits::CONSTANTS]
-    requires { length s.now ≤ longest }
-    ensures { (W : World) → Tables W.constants W.verbs ks.now sg.now → (p : ℕ) → p < 255
-        → get_or result p 0 ≡ cond (member p (requests.issuers (node_at W.verbs s.now max_depth first_node_at) W)) 1 0 }
+pub fn issuers(kinds: &[u8], signatures: &[u8], request: &[u8]) -> [u8; limits::CONSTANTS]
+    requires { length request.now ≤ longest }
+    ensures { (W : World) → Tables W.constants W.verbs kinds.now signatures.now → (p : ℕ) → p < 255
+        → get_or result p 0 ≡ cond (member p (requests.issuers (node_at W.verbs request.now max_depth first_node_at) W)) 1 0 }
 {
     let text = Text {
-        signatures: sg,
-        bytes: s,
+        signatures,
+        bytes: request,
     };
-    issuing::issuers(ks, &Tree { text }, WHOLE)
+    issuing::issuers(kinds, &Tree { text }, WHOLE)
 }

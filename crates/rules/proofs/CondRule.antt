@@ -2,7 +2,7 @@
 -- The frame is over the model's bindings and constraints and its plan is right, so the search's instances are the rule's.
 use mathlib.Core.Path.{◌≡◌, refl, sym, ap, subst, ◌∙◌}
 use mathlib.Core.Logic.{inl, inr, ◌≢◌}
-use mathlib.Core.Bool.{Bool, true, false, cond}
+use mathlib.Core.Bool.{Bool, true, cond}
 use mathlib.Core.Option.{Option, some}
 use mathlib.Core.List.Memᴰ
 use mathlib.Core.List.{List, [], ◌∷◌, map, Memᴰ}
@@ -30,11 +30,12 @@ use Rattle.rules.specs.Cond.{may, head_entry, body_row, source_of, search_by, gr
 use Rattle.rules.specs.Cond as Cond
 use Rattle.rules.specs.Valid.{given, Valid}
 use Rattle.rules.proofs.MatchFacts.{Under, Ground, row_on, row_bound, Fitted, fits_of, fits_some}
-use Rattle.rules.proofs.ExtendFacts.{L, In, unbound_at, stands, fair_start, fair_on}
+use Rattle.rules.proofs.ExtendFacts.{L, In, unbound_at, stands, fair_start, fair_on, when_of}
 use Rattle.rules.proofs.Following.{follow_of, follow_in}
-use Rattle.rules.proofs.StepFacts.{not_new, Marks, marks_row, Search, Passes, Met, hold_in}
+use Rattle.rules.proofs.StepFacts.{not_new, Marks, marks_row, GroundTable, Search, Passes, Met, hold_in}
 use Rattle.rules.proofs.CondFacts.{ground_on, plan_of_law, plan_in_law}
-use Rattle.rules.proofs.RoundLaw.{Given, Held, derived, within}
+use Rattle.model.proofs.ClosureFacts.{first→derives}
+use Rattle.rules.proofs.RoundLaw.{Given, Held, within}
 use Rattle.rules.proofs.Good.{good, key_below, below_ground}
 use Rattle.rules.proofs.UseFacts.{told}
 use Rattle.rules.proofs.Framed.{at_some, some_at, Framed, fact_at, body_there, body_is, head_is, tests_of_law, tests_in_law, search}
@@ -85,11 +86,7 @@ module _ {𝒜 : List Assertion} {F : Frame} {a : Assertion} (S : Framed 𝒜 F 
   -- what is given, the constraints without variables hold
   ground_of : (along : Plan) (rs : L) {c : List ℕ} → In c (grounded F along rs) → (Cond.hold F along.ground_tests unbound8 ≡ true) × In c rs
   unfolding grounded
-  ground_of along rs {c} m = go (Cond.hold F along.ground_tests unbound8) refl m
-    where
-      go : (b : Bool) → Cond.hold F along.ground_tests unbound8 ≡ b → In c (cond b rs []) → (Cond.hold F along.ground_tests unbound8 ≡ true) × In c rs
-      go true e m = (e, m)
-      go false e m = absurd (Memᴰ.not-nil m)
+  ground_of along rs m = when_of (Cond.hold F along.ground_tests unbound8) m
 
   -- they hold where all constraints do under some binding
   ground_in : {t : L} (Sr : Search F W.constants ks t) {skip : ℕ} {along : Plan} → Valid F.pattern skip along → (rs : L) (ρ : List ℕ)
@@ -99,14 +96,14 @@ module _ {𝒜 : List Assertion} {F : Frame} {a : Assertion} (S : Framed 𝒜 F 
       ap (λ (b : Bool). cond b rs []) (hold_in Sr unbound8 along.ground_tests (λ i m. ground_on Sr v m ρ ∙ h i (v.ground_tests.0 i m).0))
 
   module _ {n : ℕ} {t : L} (H : Held (Rule W 𝒜) key n t) where
-    ground_tests : (q : List ℕ) → In q t → Ground (fact_of q)
-    ground_tests q m =
+    table_ground : GroundTable t
+    table_ground q m =
         let s = H.sound q m in
-        let fine = good W 𝒜 S.sources s.1 (derived (Rule W 𝒜) s.0 s.1 s.3) in
+        let fine = good W 𝒜 S.sources s.1 (first→derives (Rule W 𝒜) s.0 s.1 s.3) in
         subst (λ (r : List ℕ). Ground (fact_of r)) (sym s.2) (below_ground (key s.1) (key_below W s.1 fine))
 
     abbrev Sr : Search F W.constants ks t
-    Sr = search S t ground_tests
+    Sr = search S t table_ground
 
     -- a body fact that is met is of rounds 1 to n
     met_old : (θ : List ℕ) (i : ℕ) → i < length a.body → Met Sr (body_fact i) θ → Within (Rule W 𝒜) n (fact_at S θ i)
@@ -142,37 +139,34 @@ module _ {𝒜 : List Assertion} {F : Frame} {a : Assertion} (S : Framed 𝒜 F 
     onward q = follow (first_match (fact_of q)) (search_by F t (plan F.skip))
 
     given_fits : {q τ : List ℕ} → In q t → F.skip < bodies → first_match (fact_of q) ≡ some τ → Fitted (may F) given_row (fact_of q) unbound8 τ
-    given_fits {q} m h e = fits_of (may F) given_row (fact_of q) (Sr.rows F.skip h) (ground_tests q m) e
+    given_fits {q} m h e = fits_of (may F) given_row (fact_of q) (Sr.rows F.skip h) (table_ground q m) e
 
     given_marks : {q τ : List ℕ} → In q t → F.skip < bodies → Fitted (may F) given_row (fact_of q) unbound8 τ → Marks (given F.pattern F.skip) τ
     given_marks {q} {τ} m h f =
         rw (lt-ltb F.skip bodies h) (marks_row (F.pattern.body F.skip) (record { of = λ v z. unbound_at v })
-        (λ v k. row_bound given_row (fact_of q) τ (ground_tests q m) f.is v (Memᴰ.tail (Memᴰ.tail k))))
+        (λ v k. row_bound given_row (fact_of q) τ (table_ground q m) f.is v (Memᴰ.tail (Memᴰ.tail k))))
 
     pub cond_gives : (q c : List ℕ) → In q t → In c (cond_at F t (fact_of q)) → Gives n c
     unfolding cond_at source_of
-    cond_gives q c mq m = go (ltb F.skip bodies) refl m
+    cond_gives q c mq m =
+        let o = when_of (ltb F.skip bodies) m in
+        let h : F.skip < bodies = ltb-true F.skip bodies o.0 in
+        let g = ground_of (plan F.skip) (onward q) o.1 in
+        let τ = follow_of (first_match (fact_of q)) (search_by F t (plan F.skip)) c g.1 in
+        let f = given_fits mq h τ.1 in
+        let w = plan_of_law Sr (S.plans F.skip (inr h)) (given_marks mq h f) (fair_on Sr.over f (fair_start Sr.over)) g.0 τ.2 in
+        let ρ : List ℕ = w.0 in
+        let row = row_on given_row (fact_of q) (table_ground q mq) w.1.under f.is in
+        let skipped : Met Sr (body_fact F.skip) ρ =
+        (q, record { among = mq; late = not_new F.skip F.last F.skip q (λ l. absurd (omega arith)); row = row }) in
+        let body = body_by_law n ρ (λ i l. met_old ρ i l (every i (omega (arith, S.laid.bodies)) (w.1.met i) skipped (ℕ_discrete F.skip i))) in
+        head_gives {n = n} (record { binds = w.1.binds; passes = tests_in_law S ρ w.1.pass; body = body }) w.1.is
       where
-        go : (b : Bool) → ltb F.skip bodies ≡ b → In c (cond b (grounded F (plan F.skip) (onward q)) []) → Gives n c
-        go false e m = absurd (Memᴰ.not-nil m)
-        go true e m =
-            let h : F.skip < bodies = ltb-true F.skip bodies e in
-            let g = ground_of (plan F.skip) (onward q) m in
-            let τ = follow_of (first_match (fact_of q)) (search_by F t (plan F.skip)) c g.1 in
-            let f = given_fits mq h τ.1 in
-            let w = plan_of_law Sr (S.plans F.skip (inr h)) (given_marks mq h f) (fair_on Sr.over f (fair_start Sr.over)) g.0 τ.2 in
-            let ρ : List ℕ = w.0 in
-            let row = row_on given_row (fact_of q) (ground_tests q mq) w.1.under f.is in
-            let skipped : Met Sr (body_fact F.skip) ρ =
-            (q, record { among = mq; late = not_new F.skip F.last F.skip q (λ l. absurd (omega arith)); row = row }) in
-            let body = body_by_law n ρ (λ i l. met_old ρ i l (every i (omega (arith, S.laid.bodies)) (w.1.met i) skipped (ℕ_discrete F.skip i))) in
-            head_gives {n = n} (record { binds = w.1.binds; passes = tests_in_law S ρ w.1.pass; body = body }) w.1.is
-          where
-            -- the given one or another
-            every : {ρ : List ℕ} (i : ℕ) → i < bodies → (i < bodies → i ≢ F.skip → Met Sr (body_fact i) ρ) → Met Sr (body_fact F.skip) ρ → Dec (F.skip ≡ i)
-                → Met Sr (body_fact i) ρ
-            every {ρ} i h met given (yes e) = subst (λ (j : ℕ). Met Sr (body_fact j) ρ) e given
-            every i h met given (no e) = met h (λ z. e (sym z))
+        -- the given one or another
+        every : {ρ : List ℕ} (i : ℕ) → i < bodies → (i < bodies → i ≢ F.skip → Met Sr (body_fact i) ρ) → Met Sr (body_fact F.skip) ρ → Dec (F.skip ≡ i)
+            → Met Sr (body_fact i) ρ
+        every {ρ} i h met given (yes e) = subst (λ (j : ℕ). Met Sr (body_fact j) ρ) e given
+        every i h met given (no e) = met h (λ z. e (sym z))
 
     pub cond_given : {θ : List ℕ} → F.skip < length a.body → Applies n θ → Earlier θ
         → In (F.round ∷ key (head_of a d θ)) (cond_at F t (key (fact_at S θ F.skip)))
@@ -203,16 +197,13 @@ module _ {𝒜 : List Assertion} {F : Frame} {a : Assertion} (S : Framed 𝒜 F 
 
   pub first_gives : (n : ℕ) (c : List ℕ) → In c (cond_first F) → Gives n c
   unfolding cond_first
-  first_gives n c m = go (eqb bodies 0) refl m
-    where
-      go : (b : Bool) → eqb bodies 0 ≡ b → In c (cond b (grounded F (plan 0) (search_by F [] (plan 0) unbound8)) []) → Gives n c
-      go false e m = absurd (Memᴰ.not-nil m)
-      go true e m =
-          let z : bodies ≡ 0 = eqb-true bodies 0 e in
-          let g = ground_of (plan 0) (search_by F [] (plan 0) unbound8) m in
-          let w = plan_of_law S0 (S.plans 0 (inl refl)) (none_marks z) (fair_start S0.over) g.0 g.1 in
-          let body = body_by_law n w.0 (λ j h. absurd (omega (arith, S.laid.bodies))) in
-          head_gives {n = n} (record { binds = w.1.binds; passes = tests_in_law S w.0 w.1.pass; body = body }) w.1.is
+  first_gives n c m =
+      let o = when_of (eqb bodies 0) m in
+      let z : bodies ≡ 0 = eqb-true bodies 0 o.0 in
+      let g = ground_of (plan 0) (search_by F [] (plan 0) unbound8) o.1 in
+      let w = plan_of_law S0 (S.plans 0 (inl refl)) (none_marks z) (fair_start S0.over) g.0 g.1 in
+      let body = body_by_law n w.0 (λ j h. absurd (omega (arith, S.laid.bodies))) in
+      head_gives {n = n} (record { binds = w.1.binds; passes = tests_in_law S w.0 w.1.pass; body = body }) w.1.is
 
   pub first_given : (n : ℕ) {θ : List ℕ} → length a.body ≡ 0 → Applies n θ → In (F.round ∷ key (head_of a d θ)) (cond_first F)
   unfolding cond_first

@@ -13,7 +13,7 @@ use borrow.Author.Tests.{eq-eqb}
 use Rattle.model.specs.Lists.{pad}
 use Rattle.model.specs.Syntax.{Fact, flat, can_say, Link, Said, said, Assertion, World}
 use Rattle.model.specs.Kinds.{param_kinds}
-use Rattle.model.specs.Records.{key}
+use Rattle.model.specs.Records.{key, Formed}
 use Rattle.model.specs.Closure.{Within, by}
 use Rattle.model.specs.Hierarchy as covering
 use Rattle.model.specs.Hierarchy.{child, onward, Replaced, end, stays, falls, Covers, nested}
@@ -21,7 +21,6 @@ use Rattle.model.specs.Rules.{Rule, covers}
 use Rattle.model.proofs.ListFacts.{only_of, only_in, each_of, each_in}
 use Rattle.model.proofs.ClosureFacts.{within→derives}
 use Rattle.fact.specs.Places.{verb_of, first_of, second_of, third_of, replaced_of, same_fact, number_of}
-use Rattle.rules.specs.Rows.{Formed}
 use Rattle.rules.specs.Proper.{Below, SmallFact}
 use Rattle.rules.specs.Families.{ordered_of, other_gives, thirds_of, seconds_of, firsts_of, covers_of}
 use Rattle.rules.proofs.ExtendFacts.{In}

@@ -10,6 +10,7 @@ use native.Mathlib.Nat.{mod-eq_of_lt, not-suc-le-zero}
 use native.Mathlib.Omega.{arith}
 use lib.ListN.{length, get_or, length-map}
 use lib.Dec.{T}
+use Rattle.model.specs.Limits.{max_nest}
 use Rattle.model.specs.Lists.{all}
 use Rattle.model.specs.Syntax.{Expr, con, Fact, map_fact, Constraint, Constant, Assertion, World, Said, said, vars_test}
 use Rattle.model.specs.Kinds.{variables}
@@ -19,7 +20,7 @@ use Rattle.model.specs.Records.{key, Fitting}
 use Rattle.model.proofs.ListFacts.{all_of_law, all_in}
 use Rattle.model.proofs.BindingFacts.{at_variable}
 use Rattle.model.proofs.RecordFacts.{arity_map}
-use Rattle.fact.specs.Places.{fact_of}
+use Rattle.model.proofs.ShapeFacts.{map_formed, key_length}
 use Rattle.model.proofs.Tests.{T_true}
 use Rattle.rules.specs.Rows.{row_of, no_fact}
 use Rattle.rules.specs.Patterns.{Pattern, Frame}
@@ -27,12 +28,11 @@ use Rattle.rules.specs.Cond.{field, head_entry, body_row}
 use Rattle.rules.specs.Proper.{Proper, HasAll, Below, Sources}
 use Rattle.rules.specs.Laid.{no_test, Laid}
 use Rattle.rules.specs.Valid.{Valid}
-use Rattle.rules.proofs.MatchFacts.{Ground}
-use Rattle.rules.proofs.ExtendFacts.{L, In, Over}
+use Rattle.rules.proofs.ExtendFacts.{L, Over}
 use Rattle.rules.proofs.RowFacts.{row_key}
-use Rattle.rules.proofs.StepFacts.{Search}
+use Rattle.rules.proofs.StepFacts.{GroundTable, Search}
 use Rattle.rules.proofs.LeftFacts.{Sound}
-use Rattle.rules.proofs.Good.{Good, depth_small, key_below, key_length}
+use Rattle.rules.proofs.Good.{Good, depth_small, key_below}
 
 -- ---- elements by their numbers
 
@@ -61,7 +61,7 @@ sound {W} {a} {p} P L = record {
     ap length L.head,
     length-map (row_of a.head) (bound []),
     ap length (row_key [] 0 0 a.head),
-    key_length (said 0 0 (map_fact (bound []) a.head)) (P.heads.shape []),
+    key_length (said 0 0 (map_fact (bound []) a.head)) (map_formed (bound []) max_nest a.head P.heads.shape),
   );
   rows = λ i h.
       let l : i < length a.body = omega (arith, L.bodies) in
@@ -145,13 +145,16 @@ module _ {𝒜 : List Assertion} {F : Frame} {a : Assertion} (S : Framed 𝒜 F 
   head_is θ m =
       let fit : Fitting W (head_of a d θ) = arity_map W.verbs θ a.head S.proper.heads.arity in
       let depth = depth_small W 𝒜 S.sources d S.depth in
-      let fine : Good W (head_of a d θ) =
-      record { arity = fit; shape = S.proper.heads.shape θ; small = (S.proper.heads.issuer, depth, S.proper.heads.small θ m) } in
+      let fine : Good W (head_of a d θ) = record {
+        arity = fit;
+        shape = map_formed (bound θ) max_nest a.head S.proper.heads.shape;
+        small = (S.proper.heads.issuer, depth, S.proper.heads.small θ m);
+      } in
       let b : Below (map (bound θ) (con a.issuer ∷ con d ∷ F.pattern.head)) = subst Below (sym (head_bound_law θ)) (key_below W (head_of a d θ) fine) in
       ap₂ (λ (i : ℕ) (l : List ℕ). F.round ∷ i ∷ d ∷ l) S.laid.issuer (fields θ F.pattern.head b.1.1) ∙ ap (◌∷◌ F.round) (head_bound_law θ)
 
-  pub search : (t : L) → ((q : List ℕ) → In q t → Ground (fact_of q)) → Search F W.constants ks t
-  search t ground_tests = record { over = over; rows = rows; ground_tests = ground_tests }
+  pub search : (t : L) → GroundTable t → Search F W.constants ks t
+  search t ground = record { over = over; rows = rows; ground_facts = ground }
     where
       rows : (i : ℕ) → i < bodies → HasAll 8 (body_row F i)
       rows i h =

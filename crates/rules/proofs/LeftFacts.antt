@@ -3,7 +3,7 @@ use mathlib.Core.Path.{◌≡◌, refl, sym, ap, ◌∙◌}
 use mathlib.Core.Logic.{◌⊎◌, inl, inr, ◌≢◌}
 use mathlib.Core.Bool.{Bool, true, false, cond, true≢false}
 use mathlib.Core.List.{List, Memᴰ}
-use Prim.Native.Nat.{ℕ, zero, suc, ◌+◌, ◌≤◌, ◌<◌}
+use Prim.Native.Nat.{ℕ, zero, suc, ◌≤◌, ◌<◌}
 use native.Mathlib.Nat.{not-suc-le-zero}
 use native.Mathlib.Decide.{ℕ_discrete}
 use native.Mathlib.Omega.{arith}
@@ -16,9 +16,10 @@ use Rattle.model.specs.Syntax.{vars_test}
 use Rattle.rules.specs.Matching.{at}
 use Rattle.rules.specs.Patterns.{Pattern}
 use Rattle.rules.specs.Proper.{HasAll}
-use Rattle.rules.specs.Planning.{is_left, rank}
+use Rattle.rules.specs.Planning.{below, is_left, rank}
 use Rattle.rules.specs.Planning.{better, best_upto}
 use Rattle.rules.proofs.MarkFacts.{set_in}
+use Rattle.rules.proofs.BelowFacts.{below_less}
 
 -- what is asked of a pattern: at most four body facts, a head of twelve places, and variables below 8, which have a kind where a constraint has them
 pub record Sound (p : Pattern) : Type 0 where
@@ -51,48 +52,16 @@ module _ {p : Pattern} (S : Sound p) where
   pub few : (i : ℕ) (met : List ℕ) → is_left p met i ≡ true → i < 4
   few i met e = let b = (left_there met i e).0 in omega (arith, S.few)
 
-  -- how many of the first are left
-  unfoldable pub count : ℕ → List ℕ → ℕ
-  count zero met = 0
-  count (suc i) met = cond (is_left p met i) 1 0 + count i met
+  -- how many are left
+  abbrev pub count : List ℕ → ℕ
+  count met = length (below 4 (is_left p met))
 
-  count_same : (n i : ℕ) (met : List ℕ) → n ≤ i → count n (set met i 0) ≡ count n met
-  unfolding count
-  count_same zero i met l = refl
-  count_same (suc n) i met l = rw (left_set met i n (λ q. omega (arith, q)), count_same n i met (omega arith)) refl
-
-  pub fewer : (n i : ℕ) (met : List ℕ) → i < n → i < length met → is_left p met i ≡ true → suc (count n (set met i 0)) ≡ count n met
-  unfolding count
-  fewer zero i met l k e = absurd (not-suc-le-zero l)
-  fewer (suc n) i met l k e = go (ℕ_discrete i n) (λ h. fewer n i met h k e) (is_left p met n) refl (is_left p (set met i 0) n) refl
+  pub fewer : (i : ℕ) (met : List ℕ) → i < length met → is_left p met i ≡ true → suc (count (set met i 0)) ≡ count met
+  fewer i met l e = below_less 4 i (is_left p met) (is_left p (set met i 0)) (few i met e) e (gone (is_left p (set met i 0) i) refl) (left_set met i)
     where
-      go : Dec (i ≡ n) → (i < n → suc (count n (set met i 0)) ≡ count n met) → (a : Bool) → is_left p met n ≡ a → (b : Bool) → is_left p (set met i 0) n ≡ b
-          → suc (cond b 1 0 + count n (set met i 0)) ≡ cond a 1 0 + count n met
-      go (yes q) ih true x false y = omega (arith, count_same n i met (omega arith))
-      go (yes q) ih true x true y = absurd ((left_back met i n k y).1 (sym q))
-      go (yes q) ih false x b y = absurd (true≢false (sym e ∙ ap (is_left p met) q ∙ x))
-      go (no q) ih true x true y = omega (arith, ih (omega (arith, q)))
-      go (no q) ih false x false y = omega (arith, ih (omega (arith, q)))
-      go (no q) ih true x false y = absurd (true≢false (sym x ∙ sym (left_set met i n (λ z. q (sym z))) ∙ y))
-      go (no q) ih false x true y = absurd (true≢false (sym y ∙ left_set met i n (λ z. q (sym z)) ∙ x))
-
-  pub count_most : (n : ℕ) (met : List ℕ) → count n met ≤ n
-  unfolding count
-  count_most zero met = omega arith
-  count_most (suc n) met = go (is_left p met n) (count_most n met)
-    where
-      go : (b : Bool) → count n met ≤ n → cond b 1 0 + count n met ≤ suc n
-      go true h = omega arith
-      go false h = omega arith
-
-  pub some_left : (n i : ℕ) (met : List ℕ) → i < n → is_left p met i ≡ true → 0 < count n met
-  unfolding count
-  some_left zero i met l e = absurd (not-suc-le-zero l)
-  some_left (suc n) i met l e = go (ℕ_discrete i n) (λ h. some_left n i met h e)
-    where
-      go : Dec (i ≡ n) → (i < n → 0 < count n met) → 0 < cond (is_left p met n) 1 0 + count n met
-      go (yes q) ih = rw (← q, e) (omega arith)
-      go (no q) ih = omega (arith, ih (omega (arith, q)))
+      gone : (b : Bool) → is_left p (set met i 0) i ≡ b → is_left p (set met i 0) i ≡ false
+      gone false y = y
+      gone true y = absurd ((left_back met i i l y).1 refl)
 
   -- the best is one that is left, if any is
   pub best_is : (n : ℕ) (met β : List ℕ) → n ≤ 4

@@ -6,8 +6,10 @@ pub mod RowFacts
 pub mod Following
 pub mod StepFacts
 pub mod MarkFacts
+pub mod BelowFacts
 pub mod LeftFacts
 pub mod ModeFacts
+pub mod ChoiceFacts
 pub mod PlanFacts
 pub mod CarriedFacts
 pub mod TestedOnce

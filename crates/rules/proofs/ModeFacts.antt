@@ -19,7 +19,7 @@ use Rattle.rules.specs.Patterns.{Pattern}
 use Rattle.rules.specs.Cond.{unbound8}
 use Rattle.rules.specs.Proper.{Has, HasAll}
 use Rattle.rules.specs.Valid.{marked, exprs_of, Unused, Suits}
-use Rattle.rules.specs.Planning.{head_bound, is_left, with_fact, used_tests, used_facts, used_later, is_apart, mode_of}
+use Rattle.rules.specs.Planning.{head_bound, is_left, with_fact, used_tests, used_facts, used_later, is_apart, mode_by_head, mode_of}
 use Rattle.rules.specs.Planning.{sides}
 use Rattle.rules.proofs.StepFacts.{Marks}
 use Rattle.rules.proofs.MarkFacts.{marks_trans, marked_long, marked_grows, marked_in, told_grows, in_sides}
@@ -121,8 +121,26 @@ module _ {p : Pattern} (S : Sound p) where
       go (no q) true f ih = ih (marked used (p.body n)) (marked_long (p.body n) used ∙ h) (omega (arith, q))
       go (no q) false f ih = ih used h (omega (arith, q))
 
-  -- ---- a mode is right for body fact i before the steps ss
+  -- ---- a mode is right before the steps ss
 
+  -- that by the head, for any part
+  pub head_suits : (β : List ℕ) (x : Part) (ss : List Step) → Suits p (mode_by_head p β) x β ss
+  head_suits β x ss = go (head_bound p β) refl
+    where
+      go : (b : Bool) → head_bound p β ≡ b → Suits p (cond b enough every) x β ss
+      go false f = tt
+      go true f = λ v m. let r = placed p.head v m in
+          let l : r.0 < length p.head = r.1 in
+          subst (λ (e : Expr). bound β e ≢ unbound) r.2 (bound_of p.head β 12 f r.0 (omega (arith, S.head)))
+
+  pub head_finds : (β : List ℕ) → finds (mode_by_head p β) ≡ true
+  head_finds β = go (head_bound p β)
+    where
+      go : (b : Bool) → finds (cond b enough every) ≡ true
+      go true = refl
+      go false = refl
+
+  -- that of body fact i
   module _ (met β : List ℕ) (i : ℕ) (ss : List Step) (l8 : length β ≡ 8) (there : i < p.bodies)
       (ahead : (s : Step) → Memᴰ s ss → Later (set met i 0) (with_fact p β i) s) where
     abbrev met' : List ℕ
@@ -176,20 +194,16 @@ module _ {p : Pattern} (S : Sound p) where
 
     pub suits : Suits p (mode_of p met β i) (body_fact i) β ss
     unfolding mode_of
-    suits = go (is_apart p met β i) refl (head_bound p β) refl
+    suits = go (is_apart p met β i) refl
       where
-        go : (a : Bool) → is_apart p met β i ≡ a → (b : Bool) → head_bound p β ≡ b → Suits p (cond a once (cond b enough every)) (body_fact i) β ss
-        go true e b f = unused e
-        go false e false f = tt
-        go false e true f = λ v m. let r = placed p.head v m in
-            let l : r.0 < length p.head = r.1 in
-            subst (λ (e : Expr). bound β e ≢ unbound) r.2 (bound_of p.head β 12 f r.0 (omega (arith, S.head)))
+        go : (a : Bool) → is_apart p met β i ≡ a → Suits p (cond a once (mode_by_head p β)) (body_fact i) β ss
+        go true e = unused e
+        go false e = head_suits β (body_fact i) ss
 
   pub mode_finds : (met β : List ℕ) (i : ℕ) → finds (mode_of p met β i) ≡ true
   unfolding mode_of
-  mode_finds met β i = go (is_apart p met β i) (head_bound p β)
+  mode_finds met β i = go (is_apart p met β i)
     where
-      go : (a b : Bool) → finds (cond a once (cond b enough every)) ≡ true
-      go true b = refl
-      go false true = refl
-      go false false = refl
+      go : (a : Bool) → finds (cond a once (mode_by_head p β)) ≡ true
+      go true = refl
+      go false = head_finds β

@@ -3,7 +3,7 @@
 -- only where it is right.
 use mathlib.Core.Path.{◌≡◌, refl, sym, ap, subst, ◌∙◌}
 use mathlib.Core.Logic.{◌⊎◌, inl, inr, ⊎_elim, ◌≢◌}
-use mathlib.Core.Bool.{Bool, true, false, cond, not, true≢false}
+use mathlib.Core.Bool.{Bool, true, false, cond, true≢false}
 use mathlib.Core.List.Memᴰ
 use mathlib.Core.List.{List, ◌∷◌, Memᴰ}
 use Prim.Native.Nat.{ℕ, zero, suc, ◌≤◌, ◌<◌, ◌%◌, zero-le}
@@ -12,7 +12,7 @@ use native.Mathlib.Decide.{ℕ_discrete}
 use native.Mathlib.Omega.{arith}
 use lib.ListN.{length, set, length-set}
 use lib.Dec.{eqb, ltb}
-use borrow.Author.Tests.{eqb-true, eqb-false, eq-eqb, lt-ltb, le-ltb}
+use borrow.Author.Tests.{eq-eqb, ltb-true, lt-ltb, le-ltb}
 use Rattle.model.specs.Limits.{unbound}
 use Rattle.constraints.specs.Told.{told_both}
 use Rattle.rules.specs.Matching.{at}
@@ -21,12 +21,15 @@ use Rattle.rules.specs.Patterns.{Pattern}
 use Rattle.rules.specs.Cond.{unbound8}
 use Rattle.rules.specs.Valid.{marked, exprs_of, There, Newly, Suits, after, Right, Steps, Some, given, Valid}
 use Rattle.rules.specs.Planning.{below, is_some, newly_told, new_tests, is_left, with_fact}
-use Rattle.rules.specs.Planning.{next_fact, is_tested, passed, choice, choices, looks, meeting, steps_from, plan_of}
+use Rattle.rules.specs.Planning.{next_fact, passed, choice, choices, looks, mode_by_head, leader, with_leader, leading}
+use Rattle.rules.specs.Planning.{meeting, meeting_on, led_on, steps_from, plan_of}
 use Rattle.rules.proofs.ExtendFacts.{unbound_at}
 use Rattle.rules.proofs.TestFacts.{told_in}
 use Rattle.rules.proofs.MarkFacts.{set_grows, set_in, marked_long, marked_grows, below_of, below_in}
-use Rattle.rules.proofs.LeftFacts.{Sound, left_set, left_there, left_back, few, count, fewer, count_most, some_left, best_is}
-use Rattle.rules.proofs.ModeFacts.{Ahead, Later, later_back, suits, mode_finds}
+use Rattle.rules.proofs.BelowFacts.{below_most, below_some}
+use Rattle.rules.proofs.LeftFacts.{Sound, left_set, left_there, left_back, few, count, fewer, best_is}
+use Rattle.rules.proofs.ModeFacts.{Ahead, Later, later_back, head_suits, head_finds, suits, mode_finds}
+use Rattle.rules.proofs.ChoiceFacts.{passed_of, not_passed, leader_free}
 
 module _ {p : Pattern} (S : Sound p) where
   -- ---- steps that serve: they are right, and all that is left is met and tested by them
@@ -92,25 +95,6 @@ module _ {p : Pattern} (S : Sound p) where
 
   -- ---- the variables that no body fact binds
 
-  pub passed_of : (k : ℕ) (β : List ℕ) → k < 8 → passed p k β ≡ true → p.kind k ≢ 0 → at β k ≢ unbound
-  unfolding passed
-  passed_of k β l e n = go (eqb (at β k) unbound) refl (eqb (p.kind k) 0) refl (let k8 : k % 8 ≡ k = mod-eq_of_lt l in rw (k8, lt-ltb k 8 l) at e)
-    where
-      go : (b : Bool) → eqb (at β k) unbound ≡ b → (c : Bool) → eqb (p.kind k) 0 ≡ c → cond b (cond c true false) true ≡ true → at β k ≢ unbound
-      go false q c r e = eqb-false (at β k) unbound q
-      go true q true r e = absurd (n (eqb-true (p.kind k) 0 r))
-      go true q false r e = absurd (true≢false (sym e))
-
-  pub not_passed : (k : ℕ) (β : List ℕ) → passed p k β ≡ false → (at β (k % 8) ≡ unbound) × (p.kind (k % 8) ≢ 0)
-  unfolding passed
-  not_passed k β e = go (eqb (at β (k % 8)) unbound) refl (eqb (p.kind (k % 8)) 0) refl (cond (ltb k 8) false (not (is_tested p (k % 8)))) e
-    where
-      go : (b : Bool) → eqb (at β (k % 8)) unbound ≡ b → (c : Bool) → eqb (p.kind (k % 8)) 0 ≡ c → (x : Bool) → cond b (cond c true x) true ≡ false
-          → (at β (k % 8) ≡ unbound) × (p.kind (k % 8) ≢ 0)
-      go false q c r x e = absurd (true≢false e)
-      go true q true r x e = absurd (true≢false e)
-      go true q false r x e = (eqb-true (at β (k % 8)) unbound q, eqb-false (p.kind (k % 8)) 0 r)
-
   module _ (met : List ℕ) (none : (i : ℕ) → is_left p met i ≡ true → ⊥) where
     -- the variables from k on are bound
     abbrev From : ℕ → List ℕ → Type 0
@@ -135,9 +119,9 @@ module _ {p : Pattern} (S : Sound p) where
             at_k v v8 b n (no x) = h v v8 (omega (arith, x)) n
             at_k v v8 b n (yes x) =
                 subst (λ (j : ℕ). at β j ≢ unbound) (sym x)
-                (passed_of k β (omega arith) q (subst (λ (j : ℕ). p.kind j ≢ 0) x n))
+                (passed_of p k β (omega arith) q (subst (λ (j : ℕ). p.kind j ≢ 0) x n))
         go false q ih jh =
-            let n = not_passed k β q in
+            let n = not_passed p k β q in
             let s : Step = choice p every (k % 8) β in
             let rest = jh (λ v v8 b n. at_k v v8 b n (ℕ_discrete v (k % 8))) in
             add s β rest (here s β (omega arith, n.1) tt refl) refl refl n.0 (λ i e. inl e) (λ i e. e)
@@ -156,7 +140,7 @@ module _ {p : Pattern} (S : Sound p) where
         go true q x rest = rest
         go false q false rest = rest
         go false q true rest =
-            let n = not_passed v β q in
+            let n = not_passed p v β q in
             let v8 : v % 8 ≡ v = mod-eq_of_lt (omega arith) in
             let unset : at β v ≡ unbound = ap (at β) (sym v8) ∙ n.0 in
             record {
@@ -178,41 +162,63 @@ module _ {p : Pattern} (S : Sound p) where
 
   -- ---- the body facts
 
-  steps_serve : (n : ℕ) (met β : List ℕ) → count S 4 met ≤ n → length met ≡ 8 → length β ≡ 8 → Serves met β (steps_from p n met β)
-  unfolding steps_from
-  steps_serve zero met β c lm lb = looks_serve met (λ i e. absurd (omega (arith, some_left S 4 i met (few S i met e) e))) 8 β (omega arith) lb
-  steps_serve (suc n) met β c lm lb =
-      go (best_is S 4 met β (omega arith))
-      (λ i h e. steps_serve n (set met i 0) (with_fact p β i) (less i h e) (length-set met i 0 ∙ lm) (marked_long (p.body i) β ∙ lb))
+  -- one that is left, before steps that serve once it is met
+  meet : (rest : List ℕ → List ℕ → List Step) (met β : List ℕ) (i : ℕ) → is_left p met i ≡ true → length met ≡ 8 → length β ≡ 8
+      → Serves (set met i 0) (with_fact p β i) (rest (set met i 0) (with_fact p β i)) → Serves met β (meeting_on p rest met β i)
+  meet rest met β i e lm lb serves =
+      let s : Step = meeting p met β i in
+      let there = (left_there S met i e).0 in
+      add s β serves (here s β there (suits S met β i _ lb there serves.later) refl) (mode_finds S met β i) refl e
+      (λ j f. other j f (ℕ_discrete j i)) (λ j f. (left_back S met i j (omega (arith, lm, few S i met e)) f).0)
     where
-      less : (i : ℕ) → i < 4 → is_left p met i ≡ true → count S 4 (set met i 0) ≤ n
-      less i h e = omega (arith, fewer S 4 i met h (omega arith) e)
+      other : (j : ℕ) → is_left p met j ≡ true → Dec (j ≡ i) → (is_left p (set met i 0) j ≡ true) ⊎ (body_fact i ≡ body_fact j)
+      other j f (yes q) = inr (ap body_fact (sym q))
+      other j f (no q) = inl (left_set S met i j q ∙ f)
 
+  -- the choice of a variable that can be chosen, if v is one
+  lead : (met β : List ℕ) (v : ℕ) (ss : List Step) → (v < 8 → (at β v ≡ unbound) × (p.kind v ≢ 0)) → Serves met (with_leader p β v) ss
+      → Serves met β (leading p β v ss)
+  lead met β v ss free serves = go (ltb v 8) refl serves
+    where
+      go : (b : Bool) → ltb v 8 ≡ b → Serves met (cond b (set β v 0) β) ss → Serves met β (cond b (choice p (mode_by_head p β) v β ∷ ss) ss)
+      go false q serves = serves
+      go true q serves =
+          let l = ltb-true v 8 q in
+          let s : Step = choice p (mode_by_head p β) v β in
+          let f = free l in
+          add s β serves (here s β (l, f.1) (head_suits S β s.part ss) refl) (head_finds S β) refl f.0 (λ i e. inl e) (λ i e. e)
+
+  led_long : (β : List ℕ) (v : ℕ) → length β ≡ 8 → length (with_leader p β v) ≡ 8
+  led_long β v l = go (ltb v 8)
+    where
+      go : (b : Bool) → length (cond b (set β v 0) β) ≡ 8
+      go true = length-set β v 0 ∙ l
+      go false = l
+
+  steps_serve : (n : ℕ) (met β : List ℕ) → count S met ≤ n → length met ≡ 8 → length β ≡ 8 → Serves met β (steps_from p n met β)
+  unfolding steps_from
+  steps_serve zero met β c lm lb = looks_serve met (λ i e. absurd (omega (arith, below_some 4 i (is_left p met) (few S i met e) e))) 8 β (omega arith) lb
+  steps_serve (suc n) met β c lm lb = go (best_is S 4 met β (omega arith)) (λ met β c lm lb. steps_serve n met β c lm lb)
+    where
       go : ((next_fact p met β ≡ 4) × ((i : ℕ) → i < 4 → is_left p met i ≡ false)) ⊎ ((next_fact p met β < 4) × (is_left p met (next_fact p met β) ≡ true))
-          → ((i : ℕ) → i < 4 → is_left p met i ≡ true → Serves (set met i 0) (with_fact p β i) (steps_from p n (set met i 0) (with_fact p β i)))
-          → Serves met β (cond (ltb (next_fact p met β) 4)
-          (meeting p met β (next_fact p met β) ∷ steps_from p n (set met (next_fact p met β) 0) (with_fact p β (next_fact p met β))) (looks p 8 β))
+          → ((met β : List ℕ) → count S met ≤ n → length met ≡ 8 → length β ≡ 8 → Serves met β (steps_from p n met β))
+          → Serves met β (cond (ltb (next_fact p met β) 4) (led_on p (steps_from p n) met β (next_fact p met β)) (looks p 8 β))
       go (inl r) ih =
           rw (le-ltb (next_fact p met β) 4 (omega (arith, r.0)))
           (looks_serve met (λ i e. true≢false (sym e ∙ r.1 i (few S i met e))) 8 β (omega arith) lb)
       go (inr r) ih =
           let i : ℕ = next_fact p met β in
-          let four : i < 4 = r.0 in
-          let rest = ih i four r.1 in
-          let s : Step = meeting p met β i in
-          let there = (left_there S met i r.1).0 in
-          rw (lt-ltb i 4 four) (add s β rest (here s β there (suits S met β i _ lb there rest.later) refl) (mode_finds S met β i) refl r.1
-          (λ j e. other j e (ℕ_discrete j i)) (λ j e. (left_back S met i j (omega arith) e).0))
-        where
-          other : (j : ℕ) → is_left p met j ≡ true → Dec (j ≡ next_fact p met β)
-              → (is_left p (set met (next_fact p met β) 0) j ≡ true) ⊎ (body_fact (next_fact p met β) ≡ body_fact j)
-          other j e (yes q) = inr (ap body_fact (sym q))
-          other j e (no q) = inl (left_set S met (next_fact p met β) j q ∙ e)
+          let v : ℕ = leader p met β i in
+          let γ : List ℕ = with_leader p β v in
+          let lg = led_long β v lb in
+          let less : count S (set met i 0) ≤ n = omega (arith, fewer S i met (omega (arith, r.0)) r.1) in
+          let rest = ih (set met i 0) (with_fact p γ i) less (length-set met i 0 ∙ lm) (marked_long (p.body i) γ ∙ lg) in
+          rw (lt-ltb i 4 r.0) (lead met β v _ (leader_free p met β i) (meet (steps_from p n) met γ i r.1 lm lg rest))
 
   pub plan_valid : (skip : ℕ) → Valid p skip (plan_of p skip)
   unfolding plan_of
   plan_valid skip =
-      let v = steps_serve 4 (set unbound8 skip 0) (given p skip) (count_most S 4 _) (length-set unbound8 skip 0) given_long in
+      let v = steps_serve 4 (set unbound8 skip 0) (given p skip) (below_most 4 (is_left p (set unbound8 skip 0))) (length-set unbound8 skip 0) given_long in
       record {
         ground_tests = (below_of p.tests groundly, λ i n. below_in p.tests groundly i n.0 n.1);
         first = (new_of unbound8 (given p skip), new_in unbound8 (given p skip));

@@ -18,11 +18,11 @@ use Rattle.rules.specs.Patterns.{Pattern, Frame}
 use Rattle.rules.specs.Cond.{may, body_row, hold, search, search_by, grounded, cond_at, unbound8}
 use Rattle.rules.specs.Valid.{marked, Newly, Exactly, given, Valid}
 use Rattle.rules.specs.Searching.{Match, Offered, Next, Carried, begun, further, Fits, Ends, CarriedExactly}
-use Rattle.rules.proofs.MatchFacts.{Under, Ground, row_bound, fits_some}
+use Rattle.rules.proofs.MatchFacts.{Under, row_bound, fits_some}
 use Rattle.rules.proofs.ExtendFacts.{L, In, unbound_at, complete, fair_start, fair_on}
 use Rattle.rules.proofs.TestFacts.{told_in}
 use Rattle.rules.proofs.Following.{follow_of, follow_in}
-use Rattle.rules.proofs.StepFacts.{Marks, Search, Passes, Met, places, hold_of, hold_in}
+use Rattle.rules.proofs.StepFacts.{Marks, GroundTable, Search, Passes, Met, places, hold_of, hold_in}
 use Rattle.rules.proofs.LeftFacts.{Sound}
 use Rattle.rules.proofs.CarriedFacts.{carried_fits, fits_carried}
 use Rattle.rules.proofs.VisitedFacts.{At, fair, fitted, marks_now, at_next, tested_of, tested_in, step_exact, visits_at, head_visits}
@@ -195,6 +195,6 @@ module _ {F : Frame} {cs : List Constant} {ks : List ℕ} {t : L} (S : Search F 
 
 -- so it is for each assertion of an accepted policy, over any table whose facts are ground
 pub carried_exactly : {𝒜 : List Assertion} {F : Frame} {a : Assertion} → Framed 𝒜 F a → F.skip < F.pattern.bodies → (t : L)
-    → ((q : List ℕ) → In q t → Ground (fact_of q)) → CarriedExactly F t
-carried_exactly {F = F} S there t ground_tests =
-    carried_exactly_law (framed.search S t ground_tests) (framed.sound S.proper S.laid) there (S.plans F.skip (inr there))
+    → GroundTable t → CarriedExactly F t
+carried_exactly {F = F} S there t ground =
+    carried_exactly_law (framed.search S t ground) (framed.sound S.proper S.laid) there (S.plans F.skip (inr there))

@@ -9,11 +9,10 @@ use lib.Dec.{eqb-suc-zero}
 use Rattle.model.specs.Limits.{unlimited}
 use Rattle.model.specs.Lists.{pad}
 use Rattle.model.specs.Syntax.{Fact, flat, can_say, said, about, subject}
-use Rattle.model.specs.Records.{key, nest}
+use Rattle.model.specs.Records.{key, nest, Formed}
 use Rattle.fact.specs.Places.{inner_of, heard_of, about_of, top_of}
 use Rattle.model.proofs.ByteFacts.{length_pad}
-use Rattle.rules.specs.Rows.{Formed}
-use Rattle.rules.proofs.Good.{key_length}
+use Rattle.model.proofs.ShapeFacts.{key_length}
 
 -- n places from i on
 places : ℕ → ℕ → List ℕ → List ℕ

@@ -20,7 +20,7 @@ use Rattle.model.specs.Values.{bound}
 use Rattle.model.proofs.ListFacts.{all_of_law, all_in, only_of, only_in}
 use Rattle.fact.specs.Places.{stamp_of, fact_of}
 use Rattle.model.proofs.Tests.{T_true}
-use Rattle.rules.specs.Matching.{at, fits, follow}
+use Rattle.rules.specs.Matching.{at, fits}
 use Rattle.rules.specs.Plan.{Part, body_fact, variable, Mode, every, enough, once, look, finds, Step}
 use Rattle.rules.specs.Patterns.{Pattern, Frame}
 use Rattle.rules.specs.Cond.{upto, single, too_new, may, body_row, hold, row_of, places_of, is_late, carried, source_of}
@@ -28,7 +28,7 @@ use Rattle.rules.specs.Valid.{marked, exprs_of, There, Testable, Newly, after}
 use Rattle.rules.specs.Proper.{HasAll}
 use Rattle.rules.proofs.MatchFacts.{Under, Ground, row_on, row_bound, Fitted, fits_of}
 use Rattle.rules.proofs.KindFacts.{upto_of}
-use Rattle.rules.proofs.ExtendFacts.{L, In, Over, Binds, Fair, fair_on}
+use Rattle.rules.proofs.ExtendFacts.{L, In, Over, Binds, Fair, fair_on, unless_of}
 use Rattle.rules.proofs.TestFacts.{passes_same, told_bound}
 use Rattle.rules.proofs.Following.{follow_of, onward}
 
@@ -66,11 +66,15 @@ newly_told_law n = (n.there, n.now)
 
 -- ---- the search
 
+-- the facts of a table are ground
+abbrev pub GroundTable : L → Type 0
+GroundTable t = (q : List ℕ) → In q t → Ground (fact_of q)
+
 -- What the search stands on: the frame is over the model's bindings, each variable has a place in a binding, and the table's facts are ground.
 pub record Search (F : Frame) (cs : List Constant) (ks : List ℕ) (t : L) : Type 0 where
   pub over : Over F cs ks
   pub rows : (i : ℕ) → i < F.pattern.bodies → HasAll 8 (body_row F i)
-  pub ground_tests : (q : List ℕ) → In q t → Ground (fact_of q)
+  pub ground_facts : GroundTable t
 
 module _ {F : Frame} {cs : List Constant} {ks : List ℕ} {t : L} (S : Search F cs ks t) where
   abbrev p : Pattern
@@ -98,7 +102,7 @@ module _ {F : Frame} {cs : List Constant} {ks : List ℕ} {t : L} (S : Search F 
 
   pub places : (part : Part) (y : List ℕ) → In y (source_of F t part) → Ground (places_of F part y)
   unfolding source_of
-  places (body_fact i) y m = S.ground_tests y m
+  places (body_fact i) y m = S.ground_facts y m
   places (variable v) y m =
       let c = Memᴰ.of_map single (upto 0 (length F.kinds)) m in
       let u = upto_of (length F.kinds) 0 c.0 c.1 in
@@ -133,17 +137,12 @@ module _ {F : Frame} {cs : List Constant} {ks : List ℕ} {t : L} (S : Search F 
   pub carried_of : (s : Step) (θ y : List ℕ) {τ : List ℕ} → In τ (carried F s θ y)
       → (is_late F s.part y ≡ false) × (fits (may F) θ (row_of F s.part) (places_of F s.part y) ≡ some τ) × (hold F s.tests τ ≡ true)
   unfolding carried
-  carried_of s θ y {τ} e = go (is_late F s.part y) refl e
-    where
-      go : (b : Bool) → is_late F s.part y ≡ b
-          → In τ (cond b [] (follow (fits (may F) θ (row_of F s.part) (places_of F s.part y)) (λ (τ : List ℕ). only (hold F s.tests τ) τ)))
-          → (is_late F s.part y ≡ false) × (fits (may F) θ (row_of F s.part) (places_of F s.part y) ≡ some τ) × (hold F s.tests τ ≡ true)
-      go true q e = absurd (Memᴰ.not-nil e)
-      go false q e =
-          let o = follow_of (fits (may F) θ (row_of F s.part) (places_of F s.part y)) (λ (τ : List ℕ). only (hold F s.tests τ) τ) τ e in
-          let r = only_of (hold F s.tests o.0) o.2 in
-          let same : τ ≡ o.0 = r.1 in
-          (q, o.1 ∙ ap some (sym same), ap (hold F s.tests) same ∙ T_true _ r.0)
+  carried_of s θ y {τ} e =
+      let u = unless_of (is_late F s.part y) e in
+      let o = follow_of (fits (may F) θ (row_of F s.part) (places_of F s.part y)) (λ (τ : List ℕ). only (hold F s.tests τ) τ) τ u.1 in
+      let r = only_of (hold F s.tests o.0) o.2 in
+      let same : τ ≡ o.0 = r.1 in
+      (u.0, o.1 ∙ ap some (sym same), ap (hold F s.tests) same ∙ T_true _ r.0)
 
   pub carries : {s : Step} {θ τ y : List ℕ} → There p s.part → Fair S.over θ → In y (source_of F t s.part) → In τ (carried F s θ y) → Carries s θ τ y
   carries {s} {θ} {τ} {y} h a m e =

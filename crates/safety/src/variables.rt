@@ -22,21 +22,21 @@ impl Visit for FreeVariables {
 
     ghost steps = { λ _. free_steps };
 
-    fn says(&self, text: Text, at: usize, m: Marks) -> Marks {
-        text.fact_marks(at + 3, text.mark_at(at + 1, m))
+    fn says(&self, text: Text, at: usize, marks: Marks) -> Marks {
+        text.fact_marks(at + 3, text.mark_at(at + 1, marks))
     }
 
-    fn test(&self, text: Text, at: usize, m: Marks) -> Marks {
-        text.test_marks(at + 1, m)
+    fn test(&self, text: Text, at: usize, marks: Marks) -> Marks {
+        text.test_marks(at + 1, marks)
     }
 
-    fn enter(&self, _: usize, m: Marks) -> Marks {
-        m
+    fn enter(&self, _: usize, marks: Marks) -> Marks {
+        marks
     }
 
     // "an exists binds its variable": it is marked where it was before
-    fn leave(&self, v: usize, before: Marks, m: Marks) -> Marks {
-        marks::with_mark(m, v, marks::mark_of(before, v))
+    fn leave(&self, variable: usize, before: Marks, marks: Marks) -> Marks {
+        marks::with_mark(marks, variable, marks::mark_of(before, variable))
     }
 }
 
@@ -56,27 +56,27 @@ impl Visit for Binders {
 
     ghost steps = { λ _. binders_steps };
 
-    fn says(&self, _: Text, _: usize, m: Option<Marks>) -> Option<Marks> {
-        m
+    fn says(&self, _: Text, _: usize, marks: Option<Marks>) -> Option<Marks> {
+        marks
     }
 
-    fn test(&self, _: Text, _: usize, m: Option<Marks>) -> Option<Marks> {
-        m
+    fn test(&self, _: Text, _: usize, marks: Option<Marks>) -> Option<Marks> {
+        marks
     }
 
-    fn enter(&self, v: usize, m: Option<Marks>) -> Option<Marks> {
-        turned(m?, v, 0)
+    fn enter(&self, variable: usize, marks: Option<Marks>) -> Option<Marks> {
+        turned(marks?, variable, 0)
     }
 
-    fn leave(&self, _: usize, _: Option<Marks>, m: Option<Marks>) -> Option<Marks> {
-        m
+    fn leave(&self, _: usize, _: Option<Marks>, marks: Option<Marks>) -> Option<Marks> {
+        marks
     }
 }
 
-// m with the numbers that the node at a place binds, if each is new.
+// With the numbers that the node at a place binds, if each is new.
 #[tactic(auto, using(crate::proofs::WalkLaws::binders_walked))]
-pub fn with_binders(tree: &Tree, place: Place, m: Marks) -> Option<Marks>
-    ensures { result ≡ taken (binders (tree_in tree.now.text.signatures.now tree.now.text.bytes.now place.depth place.at)) m }
+pub fn with_binders(tree: &Tree, place: Place, marks: Marks) -> Option<Marks>
+    ensures { result ≡ taken (binders (tree_in tree.now.text.signatures.now tree.now.text.bytes.now place.depth place.at)) marks }
 {
-    tree.walk(&Binders, place, Some(m))
+    tree.walk(&Binders, place, Some(marks))
 }

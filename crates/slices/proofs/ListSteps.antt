@@ -1,28 +1,30 @@
 -- Lists as the code reads them are what the model reads, whatever their items.
-use Rattle.std.proofs.Common.{◌≡◌, ℕ, zero, suc, ◌+◌, ◌-◌, ◌<◌, ◌≤◌, Bool, true, false, cond, List, [], ◌∷◌, ◌++◌, length, refl, sym, ap, ◌∙◌, arith}
+use Rattle.std.proofs.Common.{◌≡◌, ℕ, zero, suc, ◌+◌, ◌-◌, ◌<◌, ◌≤◌, Bool, true, false, cond, List, [], ◌∷◌, ◌++◌, length, drop, Result, Ok, Err}
+use Rattle.std.proofs.Common.{refl, sym, ap, ◌∙◌, arith}
 use lib.Dec.{eqb}
 use Rattle.model.specs.Limits.{length_at, header_bytes}
 use Rattle.model.specs.Bytes.{u16_at, choose, Reading, got, refused, and_then}
 use Rattle.model.specs.Policies.{Item, contents, version_there, length_right, headed, ended, items_from, list_at}
 use Rattle.model.proofs.ReadFacts.{choose_yes, and_then_got}
-use Rattle.slices.specs.Steps.{Step, Next, Refused, step, then_step, count_right, ended_at}
+use Rattle.slices.specs.Steps.{Step, Next, Refused, step, then_step, number_of, count_right, ended_at}
+use Rattle.slices.specs.declared.Reason.{Reason}
 use Rattle.slices.specs.Items.{items_at}
-use Rattle.slices.specs.Lists.{items_by, list_by, headed_at, only_list_by, count_of}
+use Rattle.slices.specs.Lists.{standing, item_by, items_by, list_by, headed_at, only_list_by, count_of}
 use Rattle.slices.proofs.ListFacts.{Reads, list_is, list_got, contents_length}
 
 -- ---- one item after another
 
-module _ (item : ℕ → Step) where
+module _ (item : List ℕ → Result ℕ Reason) (s : List ℕ) where
   -- the next item goes on, or is refused
-  pub items_more : (n i at e : ℕ) → i < n → item at ≡ Next e → items_by item (n - i) at ≡ items_by item (n - (i + 1)) e
-  unfolding items_by then_step
-  items_more n i at e h g = let k : n - i ≡ suc (n - (i + 1)) = omega arith in rw (k, g)
+  pub items_more : (n i at m : ℕ) → i < n → item (drop at s) ≡ Ok m → items_by item s (n - i) at ≡ items_by item s (n - (i + 1)) (at + m)
+  unfolding items_by then_step standing
+  items_more n i at m h g = let k : n - i ≡ suc (n - (i + 1)) = omega arith in rw (k, g)
 
-  pub items_stop : (n i at m p : ℕ) → i < n → item at ≡ Refused m p → items_by item (n - i) at ≡ Refused m p
-  unfolding items_by then_step
-  items_stop n i at m p h g = let k : n - i ≡ suc (n - (i + 1)) = omega arith in rw (k, g)
+  pub items_stop : (n i at : ℕ) (r : Reason) → i < n → item (drop at s) ≡ Err r → items_by item s (n - i) at ≡ Refused (number_of r) at
+  unfolding items_by then_step standing
+  items_stop n i at r h g = let k : n - i ≡ suc (n - (i + 1)) = omega arith in rw (k, g)
 
-  pub items_none : (n i at : ℕ) → n ≤ i → items_by item (n - i) at ≡ Next at
+  pub items_none : (n i at : ℕ) → n ≤ i → items_by item s (n - i) at ≡ Next at
   unfolding items_by
   items_none n i at h = let k : n - i ≡ 0 = omega arith in rw k
 
@@ -38,15 +40,16 @@ ended_is s g (got x e) = go (eqb e (length s))
     go false = refl
 ended_is s g (refused n p) = refl
 
-module _ {A : Type 0} (s : List ℕ) (f : List A → ℕ → Reading A) (item : ℕ → Step) (item_is : (at : ℕ) (before : List A) → item at ≡ step (f before at)) where
-  items_are : (n : ℕ) (is : List (Item A)) (at : ℕ) → items_by item n at ≡ step (items_from f n is at)
+module _ {A : Type 0} (s : List ℕ) (f : List A → ℕ → Reading A) (item : List ℕ → Result ℕ Reason)
+    (item_is : (at : ℕ) (before : List A) → item_by item s at ≡ step (f before at)) where
+  items_are : (n : ℕ) (is : List (Item A)) (at : ℕ) → items_by item s n at ≡ step (items_from f n is at)
   unfolding items_by items_from step then_step and_then
   items_are zero is at = refl
-  items_are (suc n) is at = ap (λ (t : Step). then_step t (items_by item n)) (item_is at (contents is))
+  items_are (suc n) is at = ap (λ (t : Step). then_step t (items_by item s n)) (item_is at (contents is))
       ∙ go (f (contents is) at) (λ x e. items_are n (is ++ record { at = at; of = x } ∷ []) e)
     where
-      go : (r : Reading A) → ((x : A) (e : ℕ) → items_by item n e ≡ step (items_from f n (is ++ record { at = at; of = x } ∷ []) e))
-          → then_step (step r) (items_by item n) ≡ step (and_then r (λ x e. items_from f n (is ++ record { at = at; of = x } ∷ []) e))
+      go : (r : Reading A) → ((x : A) (e : ℕ) → items_by item s n e ≡ step (items_from f n (is ++ record { at = at; of = x } ∷ []) e))
+          → then_step (step r) (items_by item s n) ≡ step (and_then r (λ x e. items_from f n (is ++ record { at = at; of = x } ∷ []) e))
       go (got x e) h = h x e
       go (refused m p) h = refl
 
@@ -94,7 +97,7 @@ module _ {A : Type 0} (s : List ℕ) (f : List A → ℕ → Reading A) (of : �
       (r.0 ∙ ap (λ (n : ℕ). contents (items_at of next n (header_bytes + 2))) r.1, omega (arith, r.1, r.2))
 
   -- and its reader gives how many they are
-  pub only_list_is : (item : ℕ → Step) → ((at : ℕ) (before : List A) → item at ≡ step (f before at))
+  pub only_list_is : (item : List ℕ → Result ℕ Reason) → ((at : ℕ) (before : List A) → item_by item s at ≡ step (f before at))
       → only_list_by item s latest most ≡ count_of (headed latest s read)
   unfolding only_list_by headed_at headed count_of then_step step choose
   only_list_is item is = go (version_there latest s) (length_right s)

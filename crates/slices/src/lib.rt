@@ -52,10 +52,10 @@ impl Reason {
 
 // "1 version absent or not 1": a slice takes the versions 1 to `latest`.
 #[tactic(auto, unfolding(model::specs::Policies::version_there, model::specs::Bytes::both, model::specs::Bytes::choose))]
-pub fn version_there(s: &[u8], latest: usize) -> bool
-    ensures { result ≡ version_there latest s.now }
+pub fn version_there(bytes: &[u8], latest: usize) -> bool
+    ensures { result ≡ version_there latest bytes.now }
 {
-    match s.first() {
+    match bytes.first() {
         Some(&version) => 1 <= version && usize::from(version) <= latest,
         None => false,
     }
@@ -63,29 +63,30 @@ pub fn version_there(s: &[u8], latest: usize) -> bool
 
 // "2 length field short or wrong"
 #[tactic(auto, unfolding(model::specs::Policies::length_right, model::specs::Bytes::both, model::specs::Bytes::choose))]
-pub fn length_right(s: &[u8]) -> bool
-    ensures { (result ≡ length_right s.now) × (result ≡ true → length s.now ≤ longest) }
+pub fn length_right(bytes: &[u8]) -> bool
+    ensures { (result ≡ length_right bytes.now) × (result ≡ true → length bytes.now ≤ longest) }
 {
-    limits::HEADER <= s.len() && wire::u32_at(s, limits::LENGTH_AT) == s.len() - limits::HEADER
+    limits::HEADER <= bytes.len()
+        && wire::u32_at(bytes, limits::LENGTH_AT) == bytes.len() - limits::HEADER
 }
 
-// The 2-byte count at p is there and in its range.
+// The 2-byte count at `at` is there and in its range.
 #[tactic(auto, unfolding(crate::specs::Steps::count_right, model::specs::Bytes::choose))]
-pub fn count_right(s: &[u8], lowest: usize, highest: usize, p: usize) -> bool
-    requires { p ≤ farthest }
-    ensures { result ≡ count_right s.now lowest highest p }
+pub fn count_right(bytes: &[u8], lowest: usize, highest: usize, at: usize) -> bool
+    requires { at ≤ farthest }
+    ensures { result ≡ count_right bytes.now lowest highest at }
 {
-    p + 2 <= s.len() && (lowest..=highest).contains(&wire::u16_at(s, p))
+    at + 2 <= bytes.len() && (lowest..=highest).contains(&wire::u16_at(bytes, at))
 }
 
 // "bytes left over": the place is the first of them.
 #[tactic(auto, unfolding(crate::specs::Steps::ended_at, model::specs::Bytes::choose))]
-pub fn ended(s: &[u8], p: usize) -> Result<usize, Refusal>
-    ensures { step_of result ≡ ended_at s.now p }
+pub fn ended(bytes: &[u8], at: usize) -> Result<usize, Refusal>
+    ensures { step_of result ≡ ended_at bytes.now at }
 {
-    if p == s.len() {
-        Ok(p)
+    if at == bytes.len() {
+        Ok(at)
     } else {
-        Err(Reason::Form.at(p))
+        Err(Reason::Form.at(at))
     }
 }

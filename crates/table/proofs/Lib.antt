@@ -1,10 +1,8 @@
 pub mod Keys
 pub mod Records
 pub mod Orders
-pub mod Holding
 pub mod Merges
 pub mod Runs
 pub mod Sorting
-pub mod Parts
 pub mod Listing
 pub mod Model

@@ -8,7 +8,7 @@ use Rattle.model.specs.Withdrawals.{stays, left, left_in}
 use Rattle.model.specs.Meant.{Outcome, too_many_facts, too_many_answers, decided}
 use Rattle.model.specs.Reached.{counting}
 use Rattle.model.specs.Deciding.{outcome, decide, read, counted_in}
-use Rattle.model.specs.Decision.{Slices, Lent, capacity, room, reported}
+use Rattle.model.specs.Decision.{Slices, Lent, capacity, room, reported, decision}
 use Rattle.theorems.specs.Theorems as Q
 use Rattle.model.specs.Inputs.{Inputs, ReadAs, Adds}
 use Rattle.theorems.specs.Theorems.{Longer, with_policy}
@@ -37,17 +37,26 @@ module _ (R : Read) (L : Policy) (cs : L.constants ≡ R.policy.constants) (vs :
   pub same_world : L.version ≡ R.policy.version → world_in (another R L) ≡ world_in R
   same_world v = λ i. record { version = v i; constants = cs i; verbs = vs i; today = R.request.today; hierarchy = R.hierarchy }
 
--- reports tell nothing of the slices
-pub same_buffers : (o : Outcome) (l : Lent) (s : Slices)
-    → reported o (record { slices = s; fact_buffer = l.fact_buffer; answer_buffer = l.answer_buffer }) ≡ reported o l
+-- the same buffers beside other slices
+abbrev pub with_slices : Slices → Lent → Lent
+with_slices s l = record { slices = s; fact_buffer = l.fact_buffer; answer_buffer = l.answer_buffer }
+
+-- a report tells nothing of the slices
+same_buffers : (o : Outcome) (l : Lent) (s : Slices) → reported o (with_slices s l) ≡ reported o l
 same_buffers too_many_facts l s = refl
 same_buffers (too_many_answers F) l s = refl
 same_buffers (decided F A) l s = refl
 
-module _ {X : Assertion → Type 0} (R : Read) (L : Policy) (x : Longer X R.policy L) where
-  pub longer_inputs : (l : Lent) (longer : List ℕ) → Inputs l.slices R → ReadAs longer L → Inputs (with_policy longer l).slices (another R L)
-  longer_inputs l longer h a = with_policy_law R L x.constants x.verbs l longer h a
+-- so calls that decide the same report the same
+pub same_report : (l : Lent) (s : Slices) (R R' : Read) → Inputs l.slices R → Inputs s R'
+    → ((c r : ℕ) → decide R' c r ≡ decide R c r) → decision (with_slices s l) ≡ decision l
+same_report l s R R' h k same =
+    let c = capacity l.fact_buffer in
+    let r = room l.answer_buffer in
+    reports (with_slices s l) R' k
+    ∙ (same_buffers (decide R' c r) l s ∙ (ap (λ (o : Outcome). reported o l) (same c r) ∙ sym (reports l R h)))
 
+module _ {X : Assertion → Type 0} (R : Read) (L : Policy) (x : Longer X R.policy L) where
   pub longer_world : world_in (another R L) ≡ world_in R
   longer_world = same_world R L x.constants x.verbs x.version
 
@@ -63,23 +72,14 @@ module _ {X : Assertion → Type 0} (R : Read) (L : Policy) (x : Longer X R.poli
 
 pub outsiders : Q.Outsiders
 outsiders l longer R L h a x =
-    reports (with_policy longer l) (another R L) (longer_inputs R L x l longer h a)
-    ∙ (same_buffers (decide (another R L) c r) l _ ∙ (ap (λ (o : Outcome). reported o l) same ∙ sym (reports l R h)))
+    same_report l (with_policy longer l).slices R (another R L) h (with_policy_law R L x.constants x.verbs l longer h a)
+    (λ c r i. outcome (longer_world R L x i) (counts i) R.request.node c r)
   where
     W : World
     W = world_in R
 
     counts : counted_in (another R L) ≡ counted_in R
     counts = longer_counts R L x ∙ counting_same W (issuers R.request.node W) (left_in R) (longer_left R L x) (left_adds R L x)
-
-    c : ℕ
-    c = capacity l.fact_buffer
-
-    r : ℕ
-    r = room l.answer_buffer
-
-    same : decide (another R L) c r ≡ decide R c r
-    same = λ i. outcome (longer_world R L x i) (counts i) R.request.node c r
 
 pub insiders : Q.Insiders
 insiders s R h n x r =

@@ -23,7 +23,7 @@ use Rattle.theorems.proofs.Growth.{holds_more, rule_grows}
 use Rattle.theorems.proofs.VersionFacts.{rule_in_first}
 use Rattle.model.proofs.DecisionFacts.{reports, answer_at, get_d_in, in_get_d}
 use Rattle.theorems.proofs.Outcome.{meant_by}
-use Rattle.theorems.proofs.Added.{another, with_policy_law, longer_inputs, longer_world, longer_left, left_adds, longer_counts}
+use Rattle.theorems.proofs.Added.{another, with_policy_law, longer_world, longer_left, left_adds, longer_counts}
 
 -- the answers of a decision are those that its buffer lists
 binding_length : (W : World) (n : Node) (θ : List ℕ) → Memᴰ θ (bindings_in W n) → length θ ≡ answer_bytes
@@ -62,7 +62,8 @@ module _ (l l' : Lent) (R R' : Read) (h : Inputs l.slices R) (h' : Inputs l'.sli
           listed↔ (world_in R) (counted_in R) R.request.node c r l (meant_by l.slices R h c r) d θ
 
 pub growing : Q.Growing
-growing l longer R L h a x p d d' θ k = listed_more l (with_policy longer l) R (another R L) h (longer_inputs R L x l longer h a) d d' θ more k
+growing l longer R L h a x p d d' θ k =
+    listed_more l (with_policy longer l) R (another R L) h (with_policy_law R L x.constants x.verbs l longer h a) d d' θ more k
   where
     W : World
     W = world_in R

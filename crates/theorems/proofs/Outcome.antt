@@ -6,18 +6,16 @@ use mathlib.Core.List.{List, [], ◌∷◌, Memᴰ, tail-eq_of_cons-eq}
 use Prim.Native.Nat.{ℕ, ◌<◌}
 use native.Mathlib.Omega.{arith}
 use Rattle.model.specs.Syntax.{Assertion, Node, World, Read, world_in}
-use Rattle.model.specs.Closure.{Derives, First}
+use Rattle.model.specs.Closure.{First}
 use Rattle.model.specs.Rules.{Rule}
-use Rattle.model.specs.Records.{Entry, key_of, Arity}
+use Rattle.model.specs.Records.{Entry, key_of, Arity, Fitting}
 use Rattle.model.specs.Meant.{Outcome, decided, MoreThan, AtMost, Enumerates, Derivable}
 use Rattle.model.specs.Meant.{FirstIn, Satisfies, itself, Meant, full_table, full_answers, all_listed}
-use Rattle.model.specs.Steps.{eq_said, step}
 use Rattle.model.specs.Deciding.{decide, counted_in}
 use Rattle.model.specs.Decision.{Slices, Lent, allow, deny, refusal, capacity, room, word, reported}
 use Rattle.theorems.specs.Theorems as Q
 use Rattle.model.specs.Inputs.{Inputs, MeantBy}
-use Rattle.model.proofs.RoundFacts as S
-use Rattle.model.proofs.StepFacts.{eq_said_of, eq_said_refl, step_of, step_in}
+use Rattle.model.proofs.ClosureFacts.{first→derives}
 use Rattle.model.proofs.RecordFacts.{fits, same_key}
 use Rattle.model.proofs.OutcomeFacts.{clash, meant_unique, meant, same_entry}
 use Rattle.model.proofs.WithdrawalFacts.{counted_in_law}
@@ -105,8 +103,8 @@ allows l R h a b =
 
 pub records_tell : Q.RecordsTell
 records_tell s R h e e' f g r =
-    same_entry W 𝒜 R.request.node 0 0 k e e' f g (same_key W 𝒜 k e.1 e'.1 (fits W 𝒜 k e.1 (derived e f)) (fits W 𝒜 k e'.1 (derived e' g))
-    (tail-eq_of_cons-eq (tail-eq_of_cons-eq r)))
+    same_entry W 𝒜 R.request.node 0 0 (counting_arity s R h) e e' f g
+    (same_key W 𝒜 (counting_arity s R h) e.1 e'.1 (fitting e f) (fitting e' g) (tail-eq_of_cons-eq (tail-eq_of_cons-eq r)))
   where
     W : World
     W = world_in R
@@ -114,8 +112,5 @@ records_tell s R h e e' f g r =
     𝒜 : List Assertion
     𝒜 = counted_in R
 
-    k : (a : Assertion) → Memᴰ a 𝒜 → Arity W.verbs a.head
-    k = counting_arity s R h
-
-    derived : (e : Entry) → First (Rule W 𝒜) e.0 e.1 → Derives (Rule W 𝒜) e.1
-    derived e f = S.first→derives eq_said (step W 𝒜) (Rule W 𝒜) eq_said_of eq_said_refl (step_of W 𝒜) (step_in W 𝒜) e.0 e.1 f
+    fitting : (e : Entry) → First (Rule W 𝒜) e.0 e.1 → Fitting W e.1
+    fitting e f = fits W 𝒜 (counting_arity s R h) e.1 (first→derives (Rule W 𝒜) e.0 e.1 f)

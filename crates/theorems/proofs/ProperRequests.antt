@@ -1,13 +1,13 @@
 -- What a request can be read as under an accepted policy: its variables are of the eight, and each any-of has a part.
-use mathlib.Core.Path.{◌≡◌, refl, sym, subst, ◌∙◌}
+use mathlib.Core.Path.{◌≡◌, sym, subst, ◌∙◌}
 use mathlib.Core.Logic.{◌↔◌}
-use mathlib.Core.List.{List, [], ◌∷◌, ◌++◌, map, Memᴰ}
+use mathlib.Core.List.{List, [], ◌∷◌, ◌++◌}
 use mathlib.Core.Bool.{Bool, true, false, ◌&&◌}
 use Prim.Native.Nat.{ℕ, zero, suc, ◌+◌, ◌≤◌}
 use native.Mathlib.Omega.{arith}
 use lib.ListN.{length, get_or}
 use lib.Dec.{T, leb, eqb→eq, leb→le}
-use Rattle.model.specs.Limits.{principal, quantity, policy_versions}
+use Rattle.model.specs.Limits.{principal, quantity}
 use Rattle.model.specs.Lists.{all, each}
 use Rattle.model.specs.Syntax.{Expr, con, var, today, Fact, flat, can_say, Constant, Verb, Policy, Node, Nodes, says, test, all_of, any_of, non}
 use Rattle.model.specs.Syntax.{exists, end, more, vars_of, vars_in}
@@ -18,14 +18,14 @@ use Rattle.model.specs.Safe.{SafeRequest}
 use Rattle.model.specs.Bytes.{byte_at, choose, both, Reading, got}
 use Rattle.model.specs.Readings.{Sort, says_sort, test_sort, all_sort, any_sort, not_sort, exists_sort, no_sort, sort_of, node_at, verb_at}
 use Rattle.model.specs.Forms.{Form, ends, broken, no_verb, fact_form, is_kind, verb_form, signature_form}
-use Rattle.model.specs.Policies.{verb_item, Accepted, policy_of, assertions_from, verbs_from, constants_from, computed_policy, read_policy}
-use Rattle.model.proofs.PolicyReader.{policy_is}
+use Rattle.model.specs.Policies.{contents, verb_item, Accepted, policy_of, read_policy}
 use Rattle.model.specs.Nodes.{parts_form, check_parts, fitted, check_says, check_test, check_by, check_node}
 use Rattle.model.specs.Layout.{node}
 use Rattle.model.specs.Inputs.{ReadAs}
 use Rattle.model.proofs.ListFacts.{and_of}
 use Rattle.model.proofs.KindFacts.{fitting↔}
-use Rattle.model.proofs.ReadFacts.{never, choose_yes, choose_no, and_then_got, list_each, headed_got, ended_got}
+use Rattle.model.proofs.ReadFacts.{never, choose_yes, choose_no, and_then_got, list_each, accepted_lists}
+use Rattle.model.proofs.KindFacts.{kinds_each}
 use Rattle.model.proofs.CheckedNodes.{Some, Sound, SoundAll, node_checked}
 use Rattle.model.proofs.RequestReader.{node_is}
 use Rattle.model.proofs.SafetyRules.{Low, low_append, Proper, ProperAll, ProperAny, safe_request_law}
@@ -160,21 +160,11 @@ verb_kinded s before at v e r =
     let d = (both_of _ _ (both_of _ _ (both_of _ _ c).1).1).0 in
     subst (λ (w : Verb). T (all is_kind w.kinds)) (let z : verb_at s at ≡ v = let k = b.1 in cc in z) d
 
-kinds_at_law : (vs : List Verb) → ((v : Verb) → Memᴰ v vs → T (all is_kind v.kinds)) → (v : ℕ) → T (all is_kind (get_or (map (λ (x : Verb). x.kinds) vs) v []))
-kinds_at_law [] h v = tt
-kinds_at_law (x ∷ vs) h zero = h x (Memᴰ.head refl)
-kinds_at_law (x ∷ vs) h (suc v) = kinds_at_law vs (λ w m. h w (Memᴰ.tail m)) v
-
 accepted_kinded : (s : List ℕ) (A : Accepted) (e : ℕ) → read_policy s ≡ got A e → (v : ℕ) → T (all is_kind (param_kinds (policy_of A).verbs v))
-unfolding computed_policy constants_from verbs_from assertions_from
-accepted_kinded s A e r zero = tt
-accepted_kinded s A e r (suc v) =
-    let c = and_then_got _ _ A e (headed_got policy_versions s _ A e (sym (policy_is s) ∙ r)) in
-    let d = and_then_got _ _ A e c.3 in
-    let a = and_then_got _ _ A e d.3 in
-    let q = ended_got s _ A a.1 e a.3 in
-    kinds_at_law (policy_of A).verbs (subst (λ (B : Accepted). (x : Verb) → Memᴰ x (policy_of B).verbs → T (all is_kind x.kinds)) q
-    (list_each (verb_item s) (λ (x : Verb). T (all is_kind x.kinds)) (verb_kinded s) s 0 _ c.1 d.0 d.1 d.2)) v
+accepted_kinded s A e r =
+    let L = accepted_lists s A e r in
+    kinds_each (λ (ks : List ℕ). T (all is_kind ks)) tt tt (contents A.verbs)
+    (list_each (verb_item s) (λ (x : Verb). T (all is_kind x.kinds)) (verb_kinded s) s 0 _ L.verbs_at A.verbs L.assertions_at L.verbs)
 
 pub policy_kinded : (policy : List ℕ) (P : Policy) → ReadAs policy P → (v : ℕ) → T (all is_kind (param_kinds P.verbs v))
 policy_kinded policy P h =

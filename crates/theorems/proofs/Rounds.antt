@@ -1,12 +1,11 @@
 -- Rules and rounds, the reach and the versions: what a set is by its rule is what is computed, and version 1 derives what version 2 does.
 use Rattle.model.specs.Rules.{Rule}
-use Rattle.model.specs.Steps.{eq_said, step}
 use Rattle.model.specs.Reached.{issued_in, reach}
 use Rattle.theorems.specs.Theorems as Q
 use Rattle.model.proofs.ListFacts.{keep_of, keep_in, member_of, member_in}
 use Rattle.model.proofs.ClosureFacts.{derives↔within, within_more}
 use Rattle.model.proofs.RoundFacts as S
-use Rattle.model.proofs.StepFacts.{eq_said_of, eq_said_refl, step_of, step_in}
+use Rattle.model.proofs.StepFacts.{steps_computed}
 use Rattle.model.proofs.ReachFacts.{reach_of_law, reach_in, reach↔}
 use Rattle.theorems.proofs.VersionFacts.{within_first, reach_in_first, rule_in_first}
 use Rattle.model.proofs.DecisionFacts.{rounds_facts}
@@ -17,12 +16,12 @@ pub rules_are_rounds : Q.RulesAreRounds
 rules_are_rounds W 𝒜 x = derives↔within (Rule W 𝒜) x
 
 pub computed_rounds : Q.ComputedRounds
-computed_rounds W 𝒜 n x = S.round↔ eq_said (step W 𝒜) (Rule W 𝒜) eq_said_of eq_said_refl (step_of W 𝒜) (step_in W 𝒜) n x
+computed_rounds W 𝒜 n x = S.round↔ (steps_computed W 𝒜) n x
 
 pub table_entries : Q.TableEntries
 table_entries W 𝒜 c h r x = (
-  S.table_of eq_said (step W 𝒜) (Rule W 𝒜) eq_said_of eq_said_refl (step_of W 𝒜) (step_in W 𝒜) c r x,
-  S.table_first eq_said (step W 𝒜) (Rule W 𝒜) eq_said_of eq_said_refl (step_of W 𝒜) (step_in W 𝒜) c h r x,
+  S.table_of (steps_computed W 𝒜) c r x,
+  S.table_first (steps_computed W 𝒜) c h r x,
 )
 
 pub rounds_at_most_facts : Q.RoundsAtMostFacts

@@ -11,13 +11,13 @@ use Rattle.model.specs.Layout.{slice, read_withdrawals}
 use Rattle.model.specs.Meant.{Outcome}
 use Rattle.model.specs.Reached.{counting}
 use Rattle.model.specs.Deciding.{outcome, decide, read}
-use Rattle.model.specs.Decision.{Lent, capacity, room, reported}
+use Rattle.model.specs.Decision.{Lent}
 use Rattle.theorems.specs.Theorems as Q
 use Rattle.model.specs.Inputs.{Inputs, InputsBySlice, without_entries}
-use Rattle.theorems.specs.Theorems.{with_policy, with_withdrawals}
+use Rattle.theorems.specs.Theorems.{with_policy, with_withdrawals, with_assertions}
 use Rattle.model.proofs.WithdrawalFacts.{left_all, serials_aside_law}
-use Rattle.model.proofs.DecisionFacts.{slice_by_slice_law, of_slices, reports}
-use Rattle.theorems.proofs.Added.{another, with_policy_law, same_world, same_buffers}
+use Rattle.model.proofs.DecisionFacts.{slice_by_slice_law, of_slices}
+use Rattle.theorems.proofs.Added.{another, with_policy_law, same_world, same_report}
 
 -- the slice without entries is accepted by whatever constants
 no_entries : (cs : List Constant) → read_withdrawals cs without_entries ≡ got [] 7
@@ -31,10 +31,22 @@ nothing_withdrawn s P q H e a k r = (
   left_all (with_hierarchy H (world_of P q)) P.assertions,
 )
 
+-- L is the policy of R but for its assertions
+module _ (R : Read) (L : Policy) {𝒜 ℬ : List Assertion} (e : with_assertions 𝒜 L ≡ with_assertions ℬ R.policy) where
+  same_constants : L.constants ≡ R.policy.constants
+  same_constants = ap (λ (P : Policy). P.constants) e
+
+  same_verbs : L.verbs ≡ R.policy.verbs
+  same_verbs = ap (λ (P : Policy). P.verbs) e
+
+  in_world : world_in (another R L) ≡ world_in R
+  in_world = same_world R L same_constants same_verbs (ap (λ (P : Policy). P.version) e)
+
+  same_lists : 𝒜 ≡ ℬ
+  same_lists = ap (λ (P : Policy). P.assertions) e
+
 pub withdrawn_is_absent : Q.WithdrawnIsAbsent
-withdrawn_is_absent l other R L h a e =
-    reports l' R' inputs
-    ∙ (same_buffers (decide R' c r) l _ ∙ (ap (λ (o : Outcome). reported o l) same ∙ sym (reports l R h)))
+withdrawn_is_absent l other R L h a e = same_report l l'.slices R R' h inputs same
   where
     l' : Lent
     l' = with_withdrawals without_entries (with_policy other l)
@@ -42,37 +54,24 @@ withdrawn_is_absent l other R L h a e =
     R' : Read
     R' = read L R.request [] R.hierarchy
 
-    c : ℕ
-    c = capacity l.fact_buffer
-
-    r : ℕ
-    r = room l.answer_buffer
-
-    cs : L.constants ≡ R.policy.constants
-    cs = ap (λ (P : Policy). P.constants) e
-
-    vs : L.verbs ≡ R.policy.verbs
-    vs = ap (λ (P : Policy). P.verbs) e
-
     others : InputsBySlice (with_policy other l).slices (another R L)
-    others = slice_by_slice_law (with_policy other l).slices (another R L) (with_policy_law R L cs vs l other h a)
+    others = slice_by_slice_law (with_policy other l).slices (another R L) (with_policy_law R L (same_constants R L e) (same_verbs R L e) l other h a)
 
     inputs : Inputs l'.slices R'
     inputs = (nothing_withdrawn l'.slices L R.request R.hierarchy refl a others.asked_as others.ranked_as).0
 
     world : world_in R' ≡ world_in R
-    world = same_world R L cs vs (ap (λ (P : Policy). P.version) e)
+    world = in_world R L e
 
     lefts : left_in R' ≡ left_in R
-    lefts = left_all (world_in R') L.assertions ∙ ap (λ (P : Policy). P.assertions) e
+    lefts = left_all (world_in R') L.assertions ∙ same_lists R L e
 
-    same : decide R' c r ≡ decide R c r
-    same = λ i. outcome (world i) (counting (world i) (lefts i) (issuers R.request.node (world i))) R.request.node c r
+    same : (c r : ℕ) → decide R' c r ≡ decide R c r
+    same c r = λ i. outcome (world i) (counting (world i) (lefts i) (issuers R.request.node (world i))) R.request.node c r
 
 pub serials_aside : Q.SerialsAside
 serials_aside l other R L h a none e =
-    reports (with_policy other l) (another R L) (with_policy_law R L cs vs l other h a)
-    ∙ (same_buffers (decide (another R L) c r) l _ ∙ (ap (λ (o : Outcome). reported o l) same ∙ sym (reports l R h)))
+    same_report l (with_policy other l).slices R (another R L) h (with_policy_law R L (same_constants R L e) (same_verbs R L e) l other h a) same
   where
     W : World
     W = world_in R
@@ -80,28 +79,16 @@ serials_aside l other R L h a none e =
     n : Node
     n = R.request.node
 
-    c : ℕ
-    c = capacity l.fact_buffer
-
-    r : ℕ
-    r = room l.answer_buffer
-
-    cs : L.constants ≡ R.policy.constants
-    cs = ap (λ (P : Policy). P.constants) e
-
-    vs : L.verbs ≡ R.policy.verbs
-    vs = ap (λ (P : Policy). P.verbs) e
-
     -- by another list of assertions, under the same constants and verbs, without entries
-    by : World → List Withdrawal → List Assertion → Outcome
-    by U ws 𝒜 = outcome U (counting U (left U ws 𝒜) (issuers n U)) n c r
+    by : ℕ → ℕ → World → List Withdrawal → List Assertion → Outcome
+    by c r U ws 𝒜 = outcome U (counting U (left U ws 𝒜) (issuers n U)) n c r
 
-    all_left : (𝒜 : List Assertion) → by W [] 𝒜 ≡ outcome W (counting W 𝒜 (issuers n W)) n c r
-    all_left 𝒜 = ap (λ (l : List Assertion). outcome W (counting W l (issuers n W)) n c r) (left_all W 𝒜)
+    all_left : (c r : ℕ) (𝒜 : List Assertion) → by c r W [] 𝒜 ≡ outcome W (counting W 𝒜 (issuers n W)) n c r
+    all_left c r 𝒜 = ap (λ (l : List Assertion). outcome W (counting W l (issuers n W)) n c r) (left_all W 𝒜)
 
-    same : decide (another R L) c r ≡ decide R c r
-    same =
-        (λ i. by (same_world R L cs vs (ap (λ (P : Policy). P.version) e) i) (none i) L.assertions)
-        ∙ (all_left L.assertions
-        ∙ (serials_aside_law W L.assertions R.policy.assertions (issuers n W) n c r (ap (λ (P : Policy). P.assertions) e)
-        ∙ (sym (all_left R.policy.assertions) ∙ (λ i. by W (sym none i) R.policy.assertions))))
+    same : (c r : ℕ) → decide (another R L) c r ≡ decide R c r
+    same c r =
+        (λ i. by c r (in_world R L e i) (none i) L.assertions)
+        ∙ (all_left c r L.assertions
+        ∙ (serials_aside_law W L.assertions R.policy.assertions (issuers n W) n c r (same_lists R L e)
+        ∙ (sym (all_left c r R.policy.assertions) ∙ (λ i. by c r W (sym none i) R.policy.assertions))))

@@ -7,9 +7,9 @@ use Prim.Native.Nat.{ℕ, zero, suc, ◌+◌, ◌-◌, ◌≤◌, ◌<◌}
 use native.Mathlib.Decide.{dec_lt}
 use native.Mathlib.Omega.{arith}
 use lib.Dec.{eqb, ltb, eqb-suc-zero}
-use lib.ListN.{length}
+use lib.ListN.{length, drop}
 use borrow.Author.Tests.{lt-ltb, le-ltb, ne_eqb}
-use Rattle.std.specs.Prelude.{Option, Some, None, is_some, is_none}
+use Rattle.std.specs.Prelude.{Option, Some, None, is_some, is_none, Ok, Err}
 use Rattle.wire.proofs.Reading.{choose_true}
 use Rattle.model.specs.Limits.{first_variable, today_code, max_withdrawals, version}
 use Rattle.model.specs.Lists.{each}
@@ -20,6 +20,7 @@ use Rattle.model.specs.Readings.{expr_of, expr_at, constraints_at}
 use Rattle.model.specs.Entries.{withdrawal_end, withdrawal_at, withdrawal_form, withdrawal_item, computed_withdrawals, read_withdrawals}
 use Rattle.model.proofs.EntryReader.{withdrawals_is}
 use Rattle.model.proofs.ReadFacts.{choose_yes}
+use Rattle.model.proofs.Shifts.{rest_withdrawal, rest_withdrawal_end, rest_withdrawal_form}
 use Rattle.model.proofs.Tests.{T_true}
 use Rattle.limits.specs.declared.Kind.TheVariants.{Principal}
 use Rattle.kinds.specs.declared.Term.{Term}
@@ -30,11 +31,12 @@ use Rattle.kinds.proofs.Model.{fits}
 use Rattle.phrases.specs.Tables.{Tables}
 use Rattle.phrases.proofs.Model as phrase
 use Rattle.phrases.proofs.Ends.{operators_regular}
-use Rattle.slices.specs.Steps.{Step, Next, Refused, step}
-use Rattle.slices.specs.Lists.{only_list_by, count_of}
+use Rattle.slices.specs.Steps.{Step, step}
+use Rattle.slices.specs.declared.Reason.TheVariants.{Form, Unfit, Variable}
+use Rattle.slices.specs.Lists.{standing, item_by, only_list_by, count_of}
 use Rattle.slices.proofs.ListFacts.{Reads}
 use Rattle.slices.proofs.ListSteps.{only_list_is, only_list_got}
-use Rattle.withdrawals.specs.Reading.{closed_expr, test_closed, tests_closed, closed_at, entry_asks, entry_by}
+use Rattle.withdrawals.specs.Reading.{closed_expr, test_closed, tests_closed, closed_by, entry_asks, check_by}
 use Rattle.withdrawals.specs.Left.{entries_at}
 use Rattle.withdrawals.proofs.Steps.{form_within}
 
@@ -75,9 +77,9 @@ module _ (s : List ℕ) where
       none_both (vars_of (expr_at s (p + 1)) ++ vars_of (expr_at s (p + 3))) (each (constraints_at n s (p + 5)) vars_test) _ _ (test_closed_law p)
       (tests_closed_law n (p + 5))
 
-  closed_is : (at : ℕ) → closed_at s at ≡ eqb (length (vars_withdrawal (withdrawal_at s at))) 0
+  closed_is : closed_by s ≡ eqb (length (vars_withdrawal (withdrawal_at s 0))) 0
   unfolding withdrawal_at
-  closed_is at = none_both (vars_of (expr_at s at)) _ _ _ (expr_closed at) (tests_closed_law (byte_at s (at + 6)) (at + 7))
+  closed_is = none_both (vars_of (expr_at s 0)) _ _ _ (expr_closed 0) (tests_closed_law (byte_at s 6) 7)
 
 -- ---- the entries of an accepted slice
 
@@ -112,44 +114,51 @@ right_operators false true c d h = absurd (let z : ◌≡◌ {A = ℕ} 0 1 = cc 
 right_operators false false true d h = absurd (let z : ◌≡◌ {A = ℕ} 0 1 = cc in omega arith)
 right_operators false false false d h = h
 
-module _ {cs : List Constant} {vs : List Verb} {ks sg : List ℕ} (X : Tables cs vs ks sg) (s : List ℕ) where
-  asks_are : (at : ℕ) → entry_asks ks s at ≡ asks_for cs (withdrawal_demands (withdrawal_at s at))
-  unfolding entry_asks withdrawal_at
-  asks_are at = ap₂ (λ (a : Option Term) (l : List Ask). same a (Some (Any Principal)) ∷ l) (phrase.place_is X s at)
-      (phrase.tests_asks_law X s (byte_at s (at + 6)) (at + 7))
+module _ {cs : List Constant} {vs : List Verb} {ks sg : List ℕ} (X : Tables cs vs ks sg) where
+  module _ (s : List ℕ) where
+    asks_are : entry_asks ks s ≡ asks_for cs (withdrawal_demands (withdrawal_at s 0))
+    unfolding entry_asks withdrawal_at
+    asks_are = ap₂ (λ (a : Option Term) (l : List Ask). same a (Some (Any Principal)) ∷ l) (phrase.place_is X s 0)
+        (phrase.tests_asks_law X s (byte_at s 6) 7)
 
-  fits_is : (at : ℕ) → withdrawal_form s at ≡ true → is_some (feed (entry_asks ks s at) nothing) ≡ fitting cs (withdrawal_demands (withdrawal_at s at))
-  unfolding withdrawal_form withdrawal_at
-  fits_is at h =
-      ap (λ (qs : List Ask). is_some (feed qs nothing)) (asks_are at)
-      ∙ fits cs (withdrawal_demands (withdrawal_at s at)) (record {
-        constants = X.constant_kinds;
-        places = λ p m. rw (Memᴰ.eq_of_singleton m) (omega arith, omega arith);
-        tests = operators_regular s (byte_at s (at + 6)) (at + 7) (right_operators _ _ _ _ h);
-      })
+    fits_is : withdrawal_form s 0 ≡ true → is_some (feed (entry_asks ks s) nothing) ≡ fitting cs (withdrawal_demands (withdrawal_at s 0))
+    unfolding withdrawal_form withdrawal_at
+    fits_is h =
+        ap (λ (qs : List Ask). is_some (feed qs nothing)) asks_are
+        ∙ fits cs (withdrawal_demands (withdrawal_at s 0)) (record {
+          constants = X.constant_kinds;
+          places = λ p m. rw (Memᴰ.eq_of_singleton m) (omega arith, omega arith);
+          tests = operators_regular s (byte_at s 6) 7 (right_operators _ _ _ _ h);
+        })
 
   -- the tests agree, the second where the first passes
   judge : {A : Type 0} (a : A) (e at : ℕ) (f : Option Cells) (g h k : Bool) (form : Bool) → (form ≡ true → is_some f ≡ g) → h ≡ k
-      → cond (not form) (Refused 3 at) (cond (is_none f) (Refused 5 at) (cond h (Next e) (Refused 10 at)))
-      ≡ step (choose form (choose g (choose k (got a e) (refused 10 at)) (refused 5 at)) (refused 3 at))
-  unfolding choose step
+      → standing at (cond (not form) (Err Form) (cond (is_none f) (Err Unfit) (cond h (Ok e) (Err Variable))))
+      ≡ step (choose form (choose g (choose k (got a (at + e)) (refused 10 at)) (refused 5 at)) (refused 3 at))
+  unfolding choose step standing
   judge a e at (Some t) g true k true d q = rw (← d refl, ← q)
   judge a e at (Some t) g false k true d q = rw (← d refl, ← q)
   judge a e at None g h k true d q = rw (← d refl)
   judge a e at f g h k false d q = refl
 
-  entry_is : (at : ℕ) (before : List Withdrawal) → entry_by ks s at ≡ step (withdrawal_item cs s before at)
-  unfolding entry_by withdrawal_item
-  entry_is at before = judge (withdrawal_at s at) (withdrawal_end s at) at _ _ _ _ (withdrawal_form s at) (fits_is at) (closed_is s at)
+  -- what the bytes from an offset on begin with is the entry at that offset
+  pub entry_is : (s : List ℕ) (at : ℕ) (before : List Withdrawal) → item_by (check_by ks) s at ≡ step (withdrawal_item cs s before at)
+  unfolding check_by withdrawal_item
+  entry_is s at before =
+      let r = drop at s in
+      let form = rest_withdrawal_form s at 0 at (omega arith) in
+      let entry = rest_withdrawal s at 0 at (omega arith) in
+      let end = rest_withdrawal_end s at 0 at (omega arith) in
+      judge (withdrawal_at r 0) (withdrawal_end r 0) at _ _ _ _ (withdrawal_form r 0) (fits_is r) (closed_is r) ∙ rw (form, entry, end)
 
 -- ---- the slice
 
 -- as many entries as the model reads
-pub means : (ks s : List ℕ) (z : Step) → z ≡ only_list_by (entry_by ks s) s version max_withdrawals
+pub means : (ks s : List ℕ) (z : Step) → z ≡ only_list_by (check_by ks) s version max_withdrawals
     → (cs : List Constant) (vs : List Verb) (sg : List ℕ) → Tables cs vs ks sg → z ≡ count_of (read_withdrawals cs s)
 unfolding computed_withdrawals
 means ks s z h cs vs sg X =
-    h ∙ only_list_is s (withdrawal_item cs s) (withdrawal_at s) (withdrawal_end s) (reads cs s) version max_withdrawals (entry_by ks s) (entry_is X s)
+    h ∙ only_list_is s (withdrawal_item cs s) (withdrawal_at s) (withdrawal_end s) (reads cs s) version max_withdrawals (check_by ks) (entry_is X s)
     ∙ sym (ap count_of (withdrawals_is cs s))
 
 -- the entries of an accepted slice stand one after another behind their count

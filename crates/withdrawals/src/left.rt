@@ -4,13 +4,14 @@ ghost use Rattle.model.specs.Lists.{any, keep};
 ghost use Rattle.model.specs.Limits.{today_code, first_variable};
 ghost use Rattle.wire.specs.Budget.{farthest};
 ghost use Rattle.constraints.specs.Standing.{world_of};
-ghost use Rattle.model.specs.Entries.{withdrawal_at};
+ghost use Rattle.model.specs.Bytes.{byte_at};
+ghost use Rattle.model.specs.Entries.{withdrawal_at, withdrawal_end};
 ghost use Rattle.withdrawals.specs.Left.{named, entries_at, stays_at, Lent};
 ghost use Rattle.withdrawals.specs.Sought.{holds_at, holding_at, named_at, unnamed_at, Within, buckets, bucket_of, bucket_at};
 
 use super::chained::Chained;
 use super::entry::Entry;
-use super::{SERIAL, TESTS};
+use super::{COUNT, SERIAL, TESTS};
 use constraints::{NOTHING_BOUND, Values};
 use slices::lists::FIRST_ITEM;
 
@@ -21,10 +22,10 @@ const BUCKETS: usize = 256;
 const LINKS: usize = BUCKETS + limits::WITHDRAWALS + 1;
 
 // The number of an expression is that of a constant.
-fn is_constant(x: usize) -> bool
-    ensures { result ≡ (not (eqb x today_code) && ltb x first_variable) }
+fn is_constant(expression: usize) -> bool
+    ensures { result ≡ (not (eqb expression today_code) && ltb expression first_variable) }
 {
-    x != limits::TODAY && x < limits::FIRST_VARIABLE
+    expression != limits::TODAY && expression < limits::FIRST_VARIABLE
 }
 
 // The bucket of an issuer and a serial.
@@ -36,21 +37,41 @@ fn bucket(issuer: usize, serial: usize) -> usize
 }
 
 // The bucket of the entry at `at`.
-fn bucket_at(s: &[u8], at: usize) -> usize
+fn bucket_at(withdrawals: &[u8], at: usize) -> usize
     requires { at + 2048 ≤ farthest }
-    ensures { (result ≡ bucket_at s.now at) × (result < buckets) }
+    ensures { (result ≡ bucket_at withdrawals.now at) × (result < buckets) }
 {
-    bucket(wire::u16_or(s, at), wire::u32_or(s, at + SERIAL))
+    bucket(
+        wire::u16_or(withdrawals, at),
+        wire::u32_or(withdrawals, at + SERIAL),
+    )
 }
 
 impl Entry<'_> {
+    // How many constraints it has.
+    fn count(&self) -> usize
+        ensures { (result ≡ byte_at self.now.bytes.now (self.now.at + 6)) × (result < 256) }
+    {
+        wire::byte_or(self.bytes, self.at + COUNT)
+    }
+
+    // Where it ends.
+    #[tactic(auto, unfolding(model::specs::Entries::withdrawal_end))]
+    fn end(&self) -> usize
+        ensures { (result ≡ withdrawal_end self.now.bytes.now self.now.at) × (result ≤ self.now.at + 2048) }
+    {
+        self.at + TESTS + phrases::CONSTRAINT * self.count()
+    }
+
     // It is for this issuer and serial.
     #[tactic(auto, using(crate::proofs::Leaving::names_is))]
     fn names(&self, issuer: usize, serial: usize) -> bool
         ensures { result ≡ named (withdrawal_at self.now.bytes.now self.now.at) issuer serial }
     {
-        let x = wire::u16_or(self.bytes, self.at);
-        x == issuer && is_constant(x) && wire::u32_or(self.bytes, self.at + SERIAL) == serial
+        let expression = wire::u16_or(self.bytes, self.at);
+        expression == issuer
+            && is_constant(expression)
+            && wire::u32_or(self.bytes, self.at + SERIAL) == serial
     }
 
     // Its constraints hold: "while its constraints hold".
@@ -66,14 +87,17 @@ impl Entry<'_> {
 
 // Where those of the first `count` entries stand that remove anything, and how many they are: the room is fixed, as there is no heap.
 #[tactic(auto, using(crate::proofs::Holding::holding_start, crate::proofs::Holding::holding_end))]
-fn holding(ats: &mut [usize], values: &Values, s: &[u8], count: usize) -> usize
+fn holding(ats: &mut [usize], values: &Values, withdrawals: &[u8], count: usize) -> usize
     requires { (count ≤ 256) × (length ats.old ≡ 256) }
-    ensures { Within (take result ats.new) × (result ≤ 256) × (take result ats.new ≡ holding_at (world_of values.now) s.now count 7) }
+    ensures { Within (take result ats.new) × (result ≤ 256) × (take result ats.new ≡ holding_at (world_of values.now) withdrawals.now count 7) }
 {
     let mut at = FIRST_ITEM;
     let mut k = 0;
     for _ in 0..count {
-        let entry = Entry { bytes: s, at };
+        let entry = Entry {
+            bytes: withdrawals,
+            at,
+        };
         if entry.holds(values) {
             ats[k] = at;
             k += 1;
@@ -117,21 +141,26 @@ impl Chained<'_> {
 // Nothing is done where there are no entries, as in most calls.
 #[inline(never)]
 #[tactic(auto, using(crate::proofs::Holding::stays_same))]
-pub fn left(issuers: &mut [usize], values: &Values, s: &[u8], entries: usize) -> usize
+pub fn left(issuers: &mut [usize], values: &Values, withdrawals: &[u8], entries: usize) -> usize
     requires { Lent issuers.old entries }
     ensures { (result ≤ length issuers.old) × (length issuers.new ≡ length issuers.old) × (take result issuers.new
-        ≡ keep (λ at. stays_at (world_of values.now) (entries_at s.now entries 7) values.now.policy.now (at - 6) at) issuers.old) }
+        ≡ keep (λ at. stays_at (world_of values.now) (entries_at withdrawals.now entries 7) values.now.policy.now (at - 6) at) issuers.old) }
 {
     if entries == 0 {
         return issuers.len();
     }
     let mut room = [0usize; limits::WITHDRAWALS];
-    let n = holding(&mut room, values, s, entries);
+    let n = holding(&mut room, values, withdrawals, entries);
     let ats = &room[..n];
     let mut links = [0u16; LINKS];
-    chains::link(&mut links, BUCKETS, ats.len(), |i| bucket_at(s, ats[i]));
+    chains::link(
+        &mut links,
+        BUCKETS,
+        ats.len(),
+        |i| bucket_at(withdrawals, ats[i]),
+    );
     let chained = Chained {
-        bytes: s,
+        bytes: withdrawals,
         ats,
         links: &links,
     };

@@ -11,9 +11,8 @@ ghost use Rattle.kinds.specs.Cells.{feed, nothing};
 ghost use Rattle.phrases.specs.Tables.{Tables};
 ghost use Rattle.slices.specs.Steps.{step_of};
 ghost use Rattle.slices.specs.Lists.{count_of};
-ghost use Rattle.withdrawals.specs.Reading.{closed_expr, closed_at, entry_asks, entry_by};
+ghost use Rattle.withdrawals.specs.Reading.{closed_expr, closed_by, entry_asks, check_by};
 
-use entry::Entry;
 use kinds::{Cells, Term};
 use limits::Kind;
 use phrases::Text;
@@ -24,89 +23,100 @@ mod chained;
 mod entry;
 pub mod left;
 
-// Where parts of an entry stand, from its issuer on.
+// Where parts of an entry stand.
+const ISSUER: usize = 0;
+
 const SERIAL: usize = 2;
 
 const COUNT: usize = 6;
 
 const TESTS: usize = 7;
 
-// ---- form
+// ---- an entry, in whatever slice: `entry` is the bytes that begin with it
 
-impl Entry<'_> {
-    // How many constraints it has.
-    fn count(&self) -> usize
-        ensures { (result ≡ byte_at self.now.bytes.now (self.now.at + 6)) × (result < 256) }
-    {
-        wire::byte_or(self.bytes, self.at + COUNT)
-    }
-
-    // Where it ends.
-    #[tactic(auto, unfolding(model::specs::Entries::withdrawal_end))]
-    fn end(&self) -> usize
-        ensures { (result ≡ withdrawal_end self.now.bytes.now self.now.at) × (result ≤ self.now.at + 2048) }
-    {
-        self.at + TESTS + phrases::CONSTRAINT * self.count()
-    }
-
-    // Its bytes as a text: no verb stands in it, so there is no table to read it by.
-    fn text(&self) -> Text<'_>
-        ensures { result.bytes.now ≡ self.now.bytes.now }
-    {
-        Text {
-            signatures: &[],
-            bytes: self.bytes,
-        }
-    }
-
-    // It is there, with at most four constraints, whose operators have a meaning.
-    #[tactic(auto, unfolding(model::specs::Entries::withdrawal_form, model::specs::Bytes::choose))]
-    fn form(&self) -> bool
-        ensures { result ≡ withdrawal_form self.now.bytes.now self.now.at }
-    {
-        if self.bytes.len() < self.at + TESTS {
-            return false;
-        }
-        let n = self.count();
-        n <= limits::CONSTRAINTS
-            && self.end() <= self.bytes.len()
-            && self.text().operators_form(n, self.at + TESTS)
-    }
-}
-
-// ---- "an entry with a variable, as issuer too"
-
-// The expression at p is none.
-fn closed(s: &[u8], p: usize) -> bool
-    requires { p ≤ farthest }
-    ensures { result ≡ closed_expr s.now p }
+// How many constraints it has.
+fn count(entry: &[u8]) -> usize
+    ensures { (result ≡ byte_at entry.now 6) × (result < 256) }
 {
-    wire::u16_or(s, p) < limits::FIRST_VARIABLE
+    wire::byte_or(entry, COUNT)
 }
 
-impl Entry<'_> {
-    // None of its expressions is one.
-    fn closed(&self) -> bool
-        ensures { result ≡ closed_at self.now.bytes.now self.now.at }
-    {
-        let s = self.bytes;
-        closed(s, self.at)
-            && (0..self.count()).all(|i| {
-                let p = self.at + TESTS + phrases::CONSTRAINT * i;
-                closed(s, p + 1) && closed(s, p + 3)
-            })
-    }
+// How many bytes it has.
+#[tactic(auto, unfolding(model::specs::Entries::withdrawal_end))]
+fn size(entry: &[u8]) -> usize
+    ensures { result ≡ withdrawal_end entry.now 0 }
+{
+    TESTS + phrases::CONSTRAINT * count(entry)
+}
 
-    // The kinds, if some choice of them fits: the issuer is a principal, and then the constraints.
-    #[tactic(auto, using(kinds::proofs::Laws::feed_more, kinds::proofs::Laws::asking), unfolding(crate::specs::Reading::entry_asks))]
-    fn fitted(&self, kinds: &[u8]) -> Option<Cells>
-        ensures { result ≡ feed (entry_asks kinds.now self.now.bytes.now self.now.at) nothing }
-    {
-        let issuer = self.text().place_at(kinds, self.at)?;
-        let cells = kinds::alike(kinds::nothing(), issuer, Term::Any(Kind::Principal))?;
-        self.text()
-            .tests_fit(kinds, self.count(), self.at + TESTS, cells)
+// Its bytes as a text: no verb stands in it, so there is no table to read it by.
+fn text(entry: &[u8]) -> Text<'_>
+    ensures { result.bytes.now ≡ entry.now }
+{
+    Text {
+        signatures: &[],
+        bytes: entry,
     }
+}
+
+// It is there, with at most four constraints, whose operators have a meaning.
+#[tactic(auto, unfolding(model::specs::Entries::withdrawal_form, model::specs::Bytes::choose))]
+fn form(entry: &[u8]) -> bool
+    ensures { result ≡ withdrawal_form entry.now 0 }
+{
+    if entry.len() < TESTS {
+        return false;
+    }
+    let n = count(entry);
+    n <= limits::CONSTRAINTS && size(entry) <= entry.len() && text(entry).operators_form(n, TESTS)
+}
+
+// The kinds, if some choice of them fits: the issuer is a principal, and then the constraints.
+#[tactic(auto, using(kinds::proofs::Laws::feed_more, kinds::proofs::Laws::asking), unfolding(crate::specs::Reading::entry_asks))]
+fn fitted(kinds: &[u8], entry: &[u8]) -> Option<Cells>
+    ensures { result ≡ feed (entry_asks kinds.now entry.now) nothing }
+{
+    let issuer = text(entry).place_at(kinds, ISSUER)?;
+    let cells = kinds::alike(kinds::nothing(), issuer, Term::Any(Kind::Principal))?;
+    text(entry).tests_fit(kinds, count(entry), TESTS, cells)
+}
+
+// The expression at `at` is no variable.
+fn no_variable(entry: &[u8], at: usize) -> bool
+    requires { at ≤ farthest }
+    ensures { result ≡ closed_expr entry.now at }
+{
+    wire::u16_or(entry, at) < limits::FIRST_VARIABLE
+}
+
+// None of its expressions is one: "an entry with a variable, as issuer too" is refused.
+fn closed(entry: &[u8]) -> bool
+    ensures { result ≡ closed_by entry.now }
+{
+    no_variable(entry, ISSUER)
+        && (0..count(entry)).all(|i| {
+            let test = TESTS + phrases::CONSTRAINT * i;
+            no_variable(entry, test + 1) && no_variable(entry, test + 3)
+        })
+}
+
+// How many bytes the entry has, or why it is refused, under a policy with these kinds of its constants (crate phrases, specs/Tables).
+// "10 .. after 5 within its item".
+#[tactic(auto, using(crate::proofs::Steps::form_within), unfolding(crate::specs::Reading::check_by))]
+pub fn check(kinds: &[u8], entry: &[u8]) -> Result<usize, Reason>
+    ensures read { result ≡ check_by kinds.now entry.now }
+    ensures within { IfOk result (λ n. n ≤ length entry.now) }
+{
+    if !form(entry) {
+        return Err(Reason::Form);
+    }
+    if fitted(kinds, entry).is_none() {
+        return Err(Reason::Unfit);
+    }
+    if !closed(entry) {
+        return Err(Reason::Variable);
+    }
+    Ok(size(entry))
 }
 
 // ---- the entries
@@ -118,22 +128,10 @@ struct Entries<'a> {
 }
 
 impl Reader for Entries<'_> {
-    ghost step_at = { λ it s. entry_by it.kinds.now s };
+    ghost read = { λ it entry. check_by it.kinds.now entry };
 
-    // "10 .. after 5 within its item".
-    #[tactic(auto, using(crate::proofs::Steps::form_within), unfolding(crate::specs::Reading::entry_by))]
-    fn item(&self, s: &[u8], at: usize) -> Result<usize, Refusal> {
-        let entry = Entry { bytes: s, at };
-        if !entry.form() {
-            return Err(Reason::Form.at(at));
-        }
-        if entry.fitted(self.kinds).is_none() {
-            return Err(Reason::Unfit.at(at));
-        }
-        if !entry.closed() {
-            return Err(Reason::Variable.at(at));
-        }
-        Ok(entry.end())
+    fn item(&self, bytes: &[u8]) -> Result<usize, Reason> {
+        check(self.kinds, bytes)
     }
 }
 

@@ -6,5 +6,5 @@ use Rattle.labels.proofs.alike.Given as goal
 
 abbrev pub invariant-loop-i : goal.invariant-loop-i
 invariant-loop-i l =
-    values.alike (bytes_at (l.n - l.i) l.left (l.p + l.i)) (bytes_at (l.n - l.i) l.right (l.q + l.i))
-    ≡ values.alike (bytes_at l.n l.left l.p) (bytes_at l.n l.right l.q)
+    values.alike (bytes_at (l.n - l.i) l.left (l.left_at + l.i)) (bytes_at (l.n - l.i) l.right (l.right_at + l.i))
+    ≡ values.alike (bytes_at l.n l.left l.left_at) (bytes_at l.n l.right l.right_at)

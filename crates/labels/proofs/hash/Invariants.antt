@@ -4,5 +4,5 @@ use Rattle.model.specs.Values.{lowered}
 use Rattle.labels.specs.Hash.{hash_step}
 use Rattle.labels.proofs.hash.Given as goal
 
-abbrev pub invariant-loop-b : goal.invariant-loop-b
-invariant-loop-b l = (l.h < 65536) × (l.h ≡ fold hash_step 0 (lowered (take l.b-index l.label)))
+abbrev pub invariant-loop-byte : goal.invariant-loop-byte
+invariant-loop-byte l = (l.hash < 65536) × (l.hash ≡ fold hash_step 0 (lowered (take l.byte-index l.label)))

@@ -16,4 +16,4 @@ decreases-known_any l = 512 * l.place.depth + l.n + 1
 abbrev pub invariant-known_all-loop : goal.invariant-known_all-loop
 invariant-known_all-loop l =
     let N = nodes_in l.tree.text.signatures.now l.tree.text.bytes.now l.place.depth in
-    known_all_in (N (l.n - l.counter) l.at) l.u ≡ known_all_in (N l.n l.place.at) l.fn.m
+    known_all_in (N (l.n - l.counter) l.at) l.after ≡ known_all_in (N l.n l.place.at) l.fn.known

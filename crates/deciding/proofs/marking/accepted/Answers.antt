@@ -12,14 +12,14 @@ use Rattle.deciding.proofs.marking.accepted.Goals as goal
 pub mark_reach-requires : goal.mark_reach-requires
 mark_reach-requires c =
     let a = c.args in
-    let d = hands a.policy.now a.request.now a.withdrawals.now a.hierarchy.now a.x.now c.requires _ c.in-Ok.ensures.meant _ refl
+    let d = hands a.policy.now a.request.now a.withdrawals.now a.hierarchy.now a.index.now c.requires _ c.in-Ok.ensures.meant _ refl
     c.in-Ok.ensures.short in
     (d.0, d.1, d.2, d.4.takes, d.4.withdraws)
 
 pub returns-in-Ok : goal.returns-in-Ok
 returns-in-Ok c =
     let a = c.args in
-    let d = hands a.policy.now a.request.now a.withdrawals.now a.hierarchy.now a.x.now c.requires _ c.in-Ok.ensures.meant _ refl
+    let d = hands a.policy.now a.request.now a.withdrawals.now a.hierarchy.now a.index.now c.requires _ c.in-Ok.ensures.meant _ refl
     c.in-Ok.ensures.short in
     let s = slices a.policy.now a.request.now a.withdrawals.now a.hierarchy.now in
     let words = sym (accepted_words s (read (policy_of d.0) d.1 d.2 d.3) a.marks.now (inputs d.4)) in
@@ -33,7 +33,7 @@ pub returns-in-Err : goal.returns-in-Err
 returns-in-Err c =
     let a = c.args in
     let s = slices a.policy.now a.request.now a.withdrawals.now a.hierarchy.now in
-    let refusal = refuses a.policy.now a.request.now a.withdrawals.now a.hierarchy.now a.x.now c.requires _ c.in-Err.ensures.meant _ refl in
+    let refusal = refuses a.policy.now a.request.now a.withdrawals.now a.hierarchy.now a.index.now c.requires _ c.in-Err.ensures.meant _ refl in
     let words = sym (refused_words s a.marks.now _ _ _ refusal) in
     record {
       numbers = c.refused.ensures ∙ ap refusal_of words;

@@ -11,11 +11,11 @@ pub returns : goal.returns
 returns c =
     let at : ℕ = 3 * c.args.entries in
     let mid : List ℕ = c.write.new.families in
-    let x = rw c.entry_at-e.ensures at c.write.ensures in
-    let b = rw c.entry_at-e.ensures at c.bucket-b.ensures.0 in
-    let parts = rest_split mid at (omega arith) c.add.new.x in
-    let after : List ℕ → List ℕ = λ (l : List ℕ). linked (drop at l) buckets c.args.k c.bucket-b.result in
-    one_laid c.requires.0 c.requires.1 c.requires.2 c.bucket-b.result b c.bucket-b.ensures.1
-    (parts.0 ∙ c.add.ensures ∙ ap (λ (l : List ℕ). linked l buckets c.args.k c.bucket-b.result) (rest_is mid at) ∙ ap after x)
+    let x = rw c.entry_at-entry.ensures at c.write.ensures in
+    let b = rw c.entry_at-entry.ensures at c.bucket-bucket.ensures.0 in
+    let parts = rest_split mid at (omega arith) c.add.new.links in
+    let after : List ℕ → List ℕ = λ (l : List ℕ). linked (drop at l) buckets c.args.k c.bucket-bucket.result in
+    one_laid c.requires.0 c.requires.1 c.requires.2 c.bucket-bucket.result b c.bucket-bucket.ensures.1
+    (parts.0 ∙ c.add.ensures ∙ ap (λ (l : List ℕ). linked l buckets c.args.k c.bucket-bucket.result) (rest_is mid at) ∙ ap after x)
     (parts.1 ∙ ap (take at) x)
-    (rest_long mid at (omega arith) c.add.new.x c.add.auto.x ∙ ap length x)
+    (rest_long mid at (omega arith) c.add.new.links c.add.auto.links ∙ ap length x)

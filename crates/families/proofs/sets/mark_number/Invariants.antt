@@ -2,5 +2,5 @@
 use Rattle.families.proofs.Uniting.{Marking}
 use Rattle.families.proofs.sets.mark_number.Given as goal
 
-abbrev pub invariant-loop-d : goal.invariant-loop-d
-invariant-loop-d l = Marking l.initial.marks l.at l.x l.marks l.d l.w
+abbrev pub invariant-loop-member : goal.invariant-loop-member
+invariant-loop-member l = Marking l.initial.marks l.at l.number l.marks l.member l.rest

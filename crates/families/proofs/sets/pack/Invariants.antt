@@ -5,4 +5,4 @@ use Rattle.families.specs.Sets.{wide, packed}
 use Rattle.families.proofs.sets.pack.Given as goal
 
 abbrev pub invariant-loop-i : goal.invariant-loop-i
-invariant-loop-i l = (l.at ≤ l.i) × (l.w ≡ packed l.marks l.i (l.at + wide - l.i))
+invariant-loop-i l = (l.at ≤ l.i) × (l.number ≡ packed l.marks l.i (l.at + wide - l.i))

@@ -3,6 +3,6 @@ use lib.ListN.{take}
 use Rattle.families.proofs.Marking.{Unpacking}
 use Rattle.families.proofs.sets.unpack.Given as goal
 
-abbrev pub invariant-loop-d : goal.invariant-loop-d
-invariant-loop-d l =
-    Unpacking (take l.count l.initial.members) l.at l.marks l.members l.n l.d l.w
+abbrev pub invariant-loop-member : goal.invariant-loop-member
+invariant-loop-member l =
+    Unpacking (take l.count l.initial.members) l.at l.marks l.members l.n l.member l.rest

@@ -1,6 +1,5 @@
-use Rattle.std.proofs.Common.{ℕ, [], ◌+◌, ◌≤◌, Err, refl, sym, ap, ◌∙◌, arith}
+use Rattle.std.proofs.Common.{ℕ, [], ◌+◌, ◌≤◌, Err, drop, refl, sym, ap, ◌∙◌, arith}
 use lib.ListN.{length-replicate}
-use Rattle.model.specs.Readings.{item_end}
 use Rattle.slices.specs.Steps.{step_of}
 use Rattle.slices.specs.declared.Refusal.{Refusal}
 use Rattle.slices.proofs.ListFacts.{counted}
@@ -24,15 +23,16 @@ names-requires g c =
     let n = c.u16_at.result in
     let most : n ≤ g.row.MOST = omega (arith, c.u16_at.ensures.0, there.most) in
     let r = c.requires in (
-      none_chained (g.N.Named.bucket_at c.args.s.now) buckets _ _ g.row.LINKS refl (omega (arith, r.2)),
+      none_chained (λ at. g.N.Named.bucket_of (drop at c.args.bytes.now)) buckets _ _ g.row.LINKS refl (omega (arith, r.2)),
       omega (arith, most, length-replicate {A = ℕ} g.row.MOST 0),
       omega (arith, most, r.2, length-replicate {A = ℕ} g.row.LINKS 0),
       omega (arith, most, r.1),
+      there.there,
     )
 
 pub returns : goal.returns
 unfolding name_list
 returns g c =
     let e = sym c.count_right.ensures ∙ c.if-not-count_right.false in
-    let names = names_by (g.N.Named.form_at c.args.s.now) (g.N.Named.alike_at c.args.s.now) (item_end c.args.s.now) in
-    rw e (c.names.ensures ∙ ap (λ (n : ℕ). names n [] (c.args.p + 2)) c.u16_at.ensures.0)
+    let names = names_by g.N.Named.form_of g.N.Named.alike_of c.args.bytes.now in
+    rw e (c.names.ensures ∙ ap (λ (n : ℕ). names n [] (c.args.at + 2)) c.u16_at.ensures.0)

@@ -9,9 +9,8 @@ use Rattle.names.proofs.named.names.Given as goal
 
 abbrev pub invariant-loop-k : goal.invariant-loop-k
 invariant-loop-k g l =
-    let form = g.N.Named.form_at l.s in
-    let alike = g.N.Named.alike_at l.s in
-    let next = item_end l.s in
-    Going next (g.N.Named.bucket_at l.s) l.from l.k l.ats l.links × (l.at ≡ ends_by next l.k l.from)
-    × (l.n ≤ length l.ats) × (buckets + l.n < length l.links)
-    × (names_by form alike next (l.n - l.k) (starts_at next l.k l.from) l.at ≡ names_by form alike next l.n [] l.from)
+    let names = names_by g.N.Named.form_of g.N.Named.alike_of l.bytes in
+    let next = item_end l.bytes in
+    Going g.N.Named.form_of g.N.Named.bucket_of l.bytes l.from l.k l.ats l.links × (l.at ≡ ends_by next l.k l.from)
+    × (l.count ≤ length l.ats) × (buckets + l.count < length l.links) × (l.at ≤ length l.bytes)
+    × (names (l.count - l.k) (starts_at next l.k l.from) l.at ≡ names l.count [] l.from)

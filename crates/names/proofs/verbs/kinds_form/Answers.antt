@@ -9,7 +9,7 @@ use Rattle.names.proofs.verbs.kinds_form.Goals as goal
 pub returns : goal.returns
 returns c =
     let a = c.args in
-    let part = take (a.p + a.n - a.p) (drop a.p a.s.now) in
+    let part = take (2 + a.arity - 2) (drop 2 a.item.now) in
     let tested : c.all.result ≡ list_all is_kind part =
     all_from_yields_List is_kind _ _ _ c.all.ensures.ran (YieldsList-from_slice part c.iter.ensures.rest) (λ x b q k. search (rules, tests)) in
-    tested ∙ all_part is_kind a.n a.s.now a.p c.requires
+    tested ∙ all_part is_kind a.arity a.item.now 2 c.requires

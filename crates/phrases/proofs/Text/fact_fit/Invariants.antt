@@ -9,4 +9,4 @@ abbrev pub invariant-loop-k : goal.invariant-loop-k
 invariant-loop-k l =
     let sg = l.self.signatures.now in
     let s = l.self.bytes.now in
-    feed (map (ask_of l.kinds s) (drop l.k (expressions_by sg s l.p))) l.u ≡ feed (fact_asks l.kinds sg s l.p) l.fn.t
+    feed (map (ask_of l.kinds s) (drop l.k (expressions_by sg s l.at))) l.fitted ≡ feed (fact_asks l.kinds sg s l.at) l.fn.cells

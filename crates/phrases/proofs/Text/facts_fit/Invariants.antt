@@ -7,5 +7,5 @@ abbrev pub invariant-loop : goal.invariant-loop
 invariant-loop l =
     let sg = l.self.signatures.now in
     let s = l.self.bytes.now in
-    (l.at ≤ l.p + 2048 * l.counter)
-    × (feed (facts_asks l.kinds sg s (l.n - l.counter) l.at) l.u ≡ feed (facts_asks l.kinds sg s l.n l.p) l.fn.t)
+    (l.here ≤ l.at + 2048 * l.counter)
+    × (feed (facts_asks l.kinds sg s (l.n - l.counter) l.here) l.fitted ≡ feed (facts_asks l.kinds sg s l.n l.at) l.fn.cells)

@@ -6,4 +6,4 @@ abbrev pub invariant-loop : goal.invariant-loop
 invariant-loop l =
     let sg = l.self.signatures.now in
     let s = l.self.bytes.now in
-    facts_form_by sg s l.e (l.n - l.counter) l.end ≡ facts_form_by sg s l.e l.n l.p
+    facts_form_by sg s (l.n - l.counter) l.end ≡ facts_form_by sg s l.n l.at

@@ -6,4 +6,4 @@ abbrev pub invariant-loop : goal.invariant-loop
 invariant-loop l =
     let sg = l.self.signatures.now in
     let s = l.self.bytes.now in
-    (l.end ≤ l.p + 2048 * l.counter) × (facts_next sg (l.n - l.counter) s l.end ≡ facts_next sg l.n s l.p)
+    (l.end ≤ l.at + 2048 * l.counter) × (facts_next sg (l.n - l.counter) s l.end ≡ facts_next sg l.n s l.at)

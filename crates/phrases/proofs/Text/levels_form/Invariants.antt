@@ -6,4 +6,4 @@ abbrev pub invariant-loop-i : goal.invariant-loop-i
 invariant-loop-i l =
     let sg = l.self.signatures.now in
     let s = l.self.bytes.now in
-    (l.p + 3 * l.i ≤ length s) × (levels_form_by sg s l.e (l.m - l.i) (l.p + 3 * l.i) ≡ levels_form_by sg s l.e l.m l.p)
+    (l.at + 3 * l.i ≤ length s) × (levels_form_by sg s (l.levels - l.i) (l.at + 3 * l.i) ≡ levels_form_by sg s l.levels l.at)

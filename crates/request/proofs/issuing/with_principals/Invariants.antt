@@ -8,4 +8,4 @@ use Rattle.request.proofs.IssuerSteps.{rest}
 use Rattle.request.proofs.issuing.with_principals.Given as goal
 
 abbrev pub invariant-loop-c : goal.invariant-loop-c
-invariant-loop-c l = rest l.ks l.c l.marks ≡ marked (of_kind principal 0 (constants_by l.ks)) l.initial.marks
+invariant-loop-c l = rest l.kinds l.c l.joined ≡ marked (of_kind principal 0 (constants_by l.kinds)) l.fn.marks

@@ -5,5 +5,5 @@ use Rattle.slices.proofs.lists.items.Given as goal
 
 abbrev pub invariant-loop : goal.invariant-loop
 invariant-loop g l =
-    let item = g.R.Reader.step_at l.reader l.s in
-    (l.here ≤ length l.s) × (items_by item (l.n - l.counter) l.here ≡ items_by item l.n l.at)
+    let items = items_by (g.R.Reader.read l.reader) l.bytes in
+    (l.here ≤ length l.bytes) × (items (l.count - l.counter) l.here ≡ items l.count l.at)

@@ -4,4 +4,4 @@ use Rattle.withdrawals.proofs.Holding.{Holding}
 use Rattle.withdrawals.proofs.left.holding.Given as goal
 
 abbrev pub invariant-loop : goal.invariant-loop
-invariant-loop l = Holding (world_of l.values) l.s l.count l.ats l.counter l.at l.k
+invariant-loop l = Holding (world_of l.values) l.withdrawals l.count l.ats l.counter l.at l.k

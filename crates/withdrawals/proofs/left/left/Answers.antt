@@ -16,7 +16,7 @@ link-requires-clause-empty c = λ b h. get_or-replicate 513 b 0 0 (omega arith)
 -- the entries put aside are all in their chains
 pub invariant_of-chained : goal.invariant_of-chained
 invariant_of-chained c =
-    let bucket = bucket_at c.args.s.now in
+    let bucket = bucket_at c.args.withdrawals.now in
     let ats = take c.holding-n.result c.holding-n.new.ats in
     let chained = chained_by bucket ats _ _ _ (c.link.ensures (λ i. bucket (get_or ats i 0)) (λ i b l h. search rules)) in
     record { linked = record { within = c.holding-n.ensures.0; chained = chained } }

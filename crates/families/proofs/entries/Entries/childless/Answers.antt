@@ -14,4 +14,5 @@ pub returns : goal.returns
 returns c t =
     let s = c.args.self.now in
     let none = MatchOption-at_none _ _ (none_is c.next.result c.is_none.result c.is_none.ensures t) c.next.ensures.steps in
-    sym (left_all s.families.now s.count c.args.key c.args.c s.entered c.under.ensures) ∙ ap (left s.families.now s.count c.args.key c.args.c) none.0
+    sym (left_all s.families.now s.count c.args.key c.args.constant s.entered c.under.ensures)
+    ∙ ap (left s.families.now s.count c.args.key c.args.constant) none.0

@@ -13,9 +13,9 @@ returns-in_ok-take_in c =
     let a = c.args in
     let x = a.self.now.families.now in
     let child = c.child.result in
-    let is = child_yes x a.self.now.count a.key a.parent a.e (sym c.is_in.ensures ∙ c.if-is_in.true) ∙ ap (λ (d : ℕ). d ∷ []) (sym c.child.ensures) in
+    let is = child_yes x a.self.now.count a.key a.parent a.entry (sym c.is_in.ensures ∙ c.if-is_in.true) ∙ ap (λ (d : ℕ). d ∷ []) (sym c.child.ensures) in
     adds_same a.marks.now _ (family_in x a.self.now.count a.key child)
-    (each (child_in x a.key a.parent a.e) (family_in x a.self.now.count a.key))
+    (each (child_in x a.key a.parent a.entry) (family_in x a.self.now.count a.key))
     (ap (λ (l : List ℕ). each l (family_in x a.self.now.count a.key)) is ∙ append-nil (family_in x a.self.now.count a.key child)) c.in_ok-take_in.ensures
 
 -- it has another
@@ -23,6 +23,6 @@ pub returns-else-is_in : goal.returns-else-is_in
 returns-else-is_in c =
     let a = c.args in
     let x = a.self.now.families.now in
-    adds_none a.marks.now (each (child_in x a.key a.parent a.e) (family_in x a.self.now.count a.key))
+    adds_none a.marks.now (each (child_in x a.key a.parent a.entry) (family_in x a.self.now.count a.key))
     (ap (λ (l : List ℕ). each l (family_in x a.self.now.count a.key))
-    (child_no x a.self.now.count a.key a.parent a.e (sym c.is_in.ensures ∙ c.if-is_in.false)))
+    (child_no x a.self.now.count a.key a.parent a.entry (sym c.is_in.ensures ∙ c.if-is_in.false)))

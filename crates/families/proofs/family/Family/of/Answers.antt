@@ -5,4 +5,4 @@ use Rattle.families.proofs.Holding.{started, held_front}
 use Rattle.families.proofs.family.Family.of.Goals as goal
 
 pub invariant_of-result : goal.invariant_of-result
-invariant_of-result c = record { held = held_front (started (replicate 256 0) (replicate 256 0) c.args.c refl refl (omega arith) (zeros 256)) }
+invariant_of-result c = record { held = held_front (started (replicate 256 0) (replicate 256 0) c.args.member refl refl (omega arith) (zeros 256)) }

@@ -13,4 +13,4 @@ decreases-walk_parts g l = 2 * l.place.depth + 1
 abbrev pub invariant-walk_parts-loop : goal.invariant-walk_parts-loop
 invariant-walk_parts-loop g l =
     let N = nodes_in l.self.text.signatures.now l.self.text.bytes.now l.place.depth in
-    all_walked (g.V.Visit.steps l.visit) (N (l.n - l.counter) l.at) l.u ≡ all_walked (g.V.Visit.steps l.visit) (N l.n l.place.at) l.fn.state
+    all_walked (g.V.Visit.steps l.visit) (N (l.n - l.counter) l.at) l.walked ≡ all_walked (g.V.Visit.steps l.visit) (N l.n l.place.at) l.fn.state

@@ -9,5 +9,5 @@ use Rattle.table.proofs.fn.place_above.partition_point.Goals as goal
 -- what is not above k is below the number after it
 pub returns : goal.returns
 returns c =
-    let k = number_of (places_of c.captures.k) in
+    let k = number_of (places_of c.captures.fact) in
     ap not c.below.ensures ∙ not_above (number_of (places_of c.load.result)) k ∙ ap (λ x. ltb x (k + 1)) (row_key c.args.row.now c.told-row c.load.ensures)
