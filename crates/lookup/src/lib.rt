@@ -31,8 +31,9 @@ pub fn constants(policy: &[u8], offsets: &mut [u32]) -> u32
     ensures count { result ≡ length (constant_offsets (read_policy policy.now)) }
     ensures written { offsets.new ≡ laid (constant_offsets (read_policy policy.now)) offsets.old }
 {
-    match policy::read(policy) {
-        Ok(index) => lay(&index.constant_at[..index.constants], offsets),
+    let mut index = policy::empty();
+    match policy::read(policy, &mut index) {
+        Ok(()) => lay(&index.constant_at[..index.constants], offsets),
         Err(_) => 0,
     }
 }
@@ -42,8 +43,9 @@ pub fn verbs(policy: &[u8], offsets: &mut [u32]) -> u32
     ensures count { result ≡ length (verb_offsets (read_policy policy.now)) }
     ensures written { offsets.new ≡ laid (verb_offsets (read_policy policy.now)) offsets.old }
 {
-    match policy::read(policy) {
-        Ok(index) => lay(&index.verb_at[..index.verbs], offsets),
+    let mut index = policy::empty();
+    match policy::read(policy, &mut index) {
+        Ok(()) => lay(&index.verb_at[..index.verbs], offsets),
         Err(_) => 0,
     }
 }
@@ -90,8 +92,9 @@ pub fn find(policy: &[u8], kind: u32, label: &[u8]) -> u32
     if !labels::has_label(kind) {
         return NO_NUMBER;
     }
-    match policy::read(policy) {
-        Ok(index) => match first(
+    let mut index = policy::empty();
+    match policy::read(policy, &mut index) {
+        Ok(()) => match first(
             policy,
             &index.kinds,
             &index.constant_at[..index.constants],

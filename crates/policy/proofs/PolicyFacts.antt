@@ -4,7 +4,7 @@ use mathlib.Core.Bool.{Bool, true, false}
 use mathlib.Core.List.{List}
 use Prim.Native.Nat.{ℕ, ◌+◌, ◌≤◌, ◌<◌}
 use lib.ListN.{length}
-use Rattle.std.specs.Prelude.{Ok, Err, if◌then◌else◌}
+use Rattle.std.specs.Prelude.{Result, Ok, Err, if◌then◌else◌}
 use Rattle.model.specs.Limits.{max_constants, max_verbs, max_assertions, policy_versions, length_at, header_bytes}
 use Rattle.model.specs.Syntax.{Assertion, Constant, Verb}
 use Rattle.model.specs.Bytes.{byte_at, u16_at, choose, Reading, got, refused, and_then}
@@ -18,10 +18,11 @@ use Rattle.model.proofs.PolicyReader.{policy_is}
 use Rattle.model.proofs.ReadFacts.{never, choose_yes, and_then_got}
 use Rattle.phrases.specs.Tables.{Tables}
 use Rattle.policy.specs.declared.Index.{Index}
-use Rattle.slices.specs.Steps.{Next, Refused, step}
+use Rattle.slices.specs.Steps.{Next, Refused, step, number_of}
+use Rattle.slices.specs.declared.Refusal.{Refusal}
 use Rattle.slices.specs.Items.{constants_at, verbs_at, assertions_at}
 use Rattle.slices.specs.Lists.{headed_at}
-use Rattle.policy.specs.Index.{verb_table, index_of, handed_out, kinds_at, signatures_at, index_at}
+use Rattle.policy.specs.Index.{verb_table, index_of, handed_out, said, kinds_at, signatures_at, index_at}
 use Rattle.assertions.specs.Assertions.{check_by, assertions_by}
 use Rattle.slices.proofs.ListFacts.{Reads, Counted, step_refused, step_next, list_got, list_right, items_length, items_starts}
 use Rattle.slices.proofs.ListFacts.{contents_each}
@@ -154,6 +155,10 @@ module _ (s : List ℕ) (p : ℕ) (K : Constants s p) where
       rest_refused n r h = ap handed_out (sym (step_refused (rest q) n r (rest_is ∙ sym h)))
 
 -- ---- the reader's steps, as the code takes them
+
+-- a refusal, whatever the index holds
+pub said_refused : {r : Result Unit Refusal} {why : Refusal} (x : Index) → r ≡ Err why → said r x ≡ Err (number_of why.reason, why.place)
+said_refused x e = ap (λ (r : Result Unit Refusal). said r x) e
 
 module _ (s : List ℕ) where
   -- version and length

@@ -15,7 +15,8 @@ use Rattle.model.specs.Readings.{item_end}
 use Rattle.slices.specs.Items.{starts_at}
 use Rattle.assertions.specs.Assertions.{issuer_read_at}
 use Rattle.phrases.proofs.Laws.{left}
-use Rattle.policy.specs.Index.{held, kind_of, row_at, kinds_at, signatures_at}
+use Rattle.policy.specs.declared.Index.{Index}
+use Rattle.policy.specs.Index.{held, with_tables, empty, kind_of, row_at, kinds_at, signatures_at}
 
 pub any_choice : (b : Bool) (x y : List ℕ) (n : ℕ) → length x ≡ n → length y ≡ n → length (choose b x y) ≡ n
 unfolding choose
@@ -138,16 +139,22 @@ pub issuers_held : (g : ℕ → ℕ) (n p : ℕ) → n ≤ 256 → sets (replica
     (map issuer_read_at (starts_at g n p))
 issuers_held g n p h = sets_held 256 _ (rw (length-map, starts_length) h)
 
-pub kinds_held : (s : List ℕ) (n p : ℕ) → n ≤ 255 → sets (replicate 255 0) 0 (map (kind_of s) (starts_at (item_end s) n p)) ≡ kinds_at s n p
-unfolding kinds_at
-kinds_held s n p h = sets_held 255 _ (rw (length-map, starts_length) h)
+-- the kinds as they are put into an index that was empty
+pub kinds_read : (s : List ℕ) (p : ℕ) {x : Index} {n m : ℕ} {u : List ℕ} → x ≡ empty → n ≡ m → m ≤ 255
+    → u ≡ sets x.kinds 0 (map (kind_of s) (starts_at (item_end s) n p)) → u ≡ kinds_at s m p
+unfolding with_tables kinds_at
+kinds_read s p {m = m} z e h w =
+    w ∙ rw (z, e) (sets_held 255 (map (kind_of s) (starts_at (item_end s) m p)) (rw (length-map, starts_length) h))
 
 rows_length : (s : List ℕ) (g : ℕ → ℕ) (k p : ℕ) → length (each (starts_at g k p) (row_at s)) ≡ 4 * k
 unfolding starts_at
 rows_length s g zero p = refl
 rows_length s g (suc k) p = length-append (row_at s p) _ ∙ (let a = row_length s p in let b = rows_length s g k (g p) in omega arith)
 
-pub rows_held : (s : List ℕ) (n p : ℕ) → n ≤ 64 → sets (set (set (replicate 260 0) 0 2) 1 1) 4
-    (each (starts_at (item_end s) n p) (row_at s)) ≡ signatures_at s n p
-unfolding signatures_at
-rows_held s n p h = sets_held 260 (2 ∷ 1 ∷ 0 ∷ 0 ∷ each (starts_at (item_end s) n p) (row_at s)) (let a = rows_length s (item_end s) n p in omega arith)
+-- and the rows
+pub signatures_read : (s : List ℕ) (p : ℕ) {x : Index} {n m : ℕ} {u : List ℕ} → x ≡ empty → n ≡ m → m ≤ 64
+    → u ≡ sets (sets x.signatures 0 (2 ∷ 1 ∷ [])) 4 (each (starts_at (item_end s) n p) (row_at s)) → u ≡ signatures_at s m p
+unfolding with_tables signatures_at
+signatures_read s p {m = m} z e h w =
+    let a = rows_length s (item_end s) m p in
+    w ∙ rw (z, e) (sets_held 260 (2 ∷ 1 ∷ 0 ∷ 0 ∷ each (starts_at (item_end s) m p) (row_at s)) (omega arith))

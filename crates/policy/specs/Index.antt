@@ -47,16 +47,35 @@ index_of A = record {
   signatures = verb_table (contents A.verbs);
 }
 
+-- nothing is read yet but what assertions are read by: the kinds of the constants, the rows of the verbs
+unfoldable pub with_tables : List ℕ → List ℕ → Index
+with_tables kinds signatures = record {
+  version = 0;
+  constants = 0;
+  verbs = 0;
+  assertions = 0;
+  constant_at = replicate max_constants 0;
+  verb_at = replicate max_verbs 0;
+  assertion_at = replicate max_assertions 0;
+  issuer_at = replicate max_assertions 0;
+  kinds = kinds;
+  signatures = signatures;
+}
+
+-- nothing at all
+abbrev pub empty : Index
+empty = with_tables (replicate max_constants 0) (replicate 260 0)
+
 -- ---- THE PROMISE: the index of an accepted policy, or a refusal's number and place, as the code gives it
 
 unfoldable pub handed_out : Reading Accepted → Result Index (ℕ × ℕ)
 handed_out (got A e) = Ok (index_of A)
 handed_out (refused n p) = Err (n, p)
 
--- what the code's result says
-abbrev pub said : Result Index Refusal → Result Index (ℕ × ℕ)
-said (Ok x) = Ok x
-said (Err r) = Err (number_of r.reason, r.place)
+-- what the code's result and its index say
+abbrev pub said : Result Unit Refusal → Index → Result Index (ℕ × ℕ)
+said (Ok u) x = Ok x
+said (Err r) x = Err (number_of r.reason, r.place)
 
 -- x is what the reader hands out of these bytes
 abbrev pub HandsOut : List ℕ → Index → Type 0

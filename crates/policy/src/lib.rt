@@ -6,7 +6,7 @@ ghost use Rattle.model.specs.Bytes.{u16_at};
 ghost use Rattle.model.specs.Limits.{max_constants, max_verbs, max_assertions};
 ghost use Rattle.model.specs.Policies.{read_policy};
 ghost use Rattle.wire.specs.Budget.{longest};
-ghost use Rattle.policy.specs.Index.{index_at, handed_out, said, label_of, label_part};
+ghost use Rattle.policy.specs.Index.{empty, with_tables, index_at, handed_out, said, label_of, label_part};
 
 use slices::Refusal;
 use slices::lists::FIRST_ITEM;
@@ -33,46 +33,61 @@ pub struct Index {
     pub signatures: [u8; tables::SIGNATURES],
 }
 
-// Everything is in order: the verbs' count stands at `second`, the assertions' at `third`.
-fn accepted(
-    policy: &[u8],
-    second: usize,
-    third: usize,
-    kinds: [u8; limits::CONSTANTS],
-    signatures: [u8; tables::SIGNATURES],
-) -> Index
-    requires { (second ≤ length policy.now) × (third ≤ length policy.now) × (length policy.now ≤ longest)
-        × (u16_at policy.now 5 ≤ max_constants) × (u16_at policy.now second ≤ max_verbs) × (u16_at policy.now third ≤ max_assertions) }
-    ensures { result ≡ index_at policy.now second third kinds signatures }
+// Nothing is read yet: this is what a reader is lent.
+#[inline(always)]
+#[tactic(auto, unfolding(crate::specs::Index::with_tables))]
+pub fn empty() -> Index
+    ensures { result ≡ empty }
+{
+    Index {
+        version: 0,
+        constants: 0,
+        verbs: 0,
+        assertions: 0,
+        constant_at: [0; limits::CONSTANTS],
+        verb_at: [0; limits::VERBS],
+        assertion_at: [0; limits::ASSERTIONS],
+        issuer_at: [0; limits::ASSERTIONS],
+        kinds: [0; limits::CONSTANTS],
+        signatures: [0; tables::SIGNATURES],
+    }
+}
+
+// Everything is in order: the verbs' count stands at `second`, the assertions' at `third`. What assertions are read by is there already.
+fn put_offsets(index: &mut Index, policy: &[u8], second: usize, third: usize)
+    requires { (index.old ≡ with_tables index.old.kinds index.old.signatures) × (second ≤ length policy.now) × (third ≤ length policy.now)
+        × (length policy.now ≤ longest) × (u16_at policy.now 5 ≤ max_constants) × (u16_at policy.now second ≤ max_verbs)
+        × (u16_at policy.now third ≤ max_assertions) }
+    ensures { index.new ≡ index_at policy.now second third index.old.kinds index.old.signatures }
 {
     let constants = wire::u16_or(policy, limits::HEADER);
     let verbs = wire::u16_or(policy, second);
     let assertions = wire::u16_or(policy, third);
-    Index {
-        version: wire::byte_or(policy, 0),
-        constants,
-        verbs,
-        assertions,
-        constant_at: tables::items(policy, constants, FIRST_ITEM),
-        verb_at: tables::items(policy, verbs, second + 2),
-        assertion_at: tables::assertions(policy, assertions, third + 2),
-        issuer_at: tables::issuers(policy, assertions, third + 2),
-        kinds,
-        signatures,
-    }
+    index.version = wire::byte_or(policy, 0);
+    index.constants = constants;
+    index.verbs = verbs;
+    index.assertions = assertions;
+    tables::put_items(&mut index.constant_at, policy, constants, FIRST_ITEM);
+    tables::put_items(&mut index.verb_at, policy, verbs, second + 2);
+    tables::put_assertions(&mut index.assertion_at, policy, assertions, third + 2);
+    tables::put_issuers(&mut index.issuer_at, policy, assertions, third + 2);
 }
 
-// The policy that these bytes hold.
-pub fn read(policy: &[u8]) -> Result<Index, Refusal>
-    ensures { said result ≡ handed_out (read_policy policy.now) }
+// The policy that these bytes hold, into an index that is lent empty: by value its seven thousand bytes would be copied from call to call.
+pub fn read(policy: &[u8], index: &mut Index) -> Result<(), Refusal>
+    requires { index.old ≡ empty }
+    ensures { said result index.new ≡ handed_out (read_policy policy.now) }
 {
     slices::lists::headed(policy, limits::POLICY_VERSIONS)?;
     let second = names::constants::constants(policy, limits::HEADER)?;
     let third = names::verbs::verbs(policy, second)?;
-    let kinds = tables::kinds(policy, wire::u16_or(policy, limits::HEADER), FIRST_ITEM);
-    let signatures = tables::signatures(policy, wire::u16_or(policy, second), second + 2);
-    assertions::assertions(&kinds, &signatures, policy, third)?;
-    Ok(accepted(policy, second, third, kinds, signatures))
+    let constants = wire::u16_or(policy, limits::HEADER);
+    tables::put_kinds(&mut index.kinds, policy, constants, FIRST_ITEM);
+    let verbs = wire::u16_or(policy, second);
+    tables::put_signatures(&mut index.signatures, policy, verbs, second + 2);
+    assertions::assertions(&index.kinds, &index.signatures, policy, third)?;
+    put_offsets(index, policy, second, third);
+    Ok(())
 }
 
 // A part of the policy's bytes.
@@ -88,8 +103,9 @@ pub struct Part {
 fn label_part(policy: &[u8], constant: usize) -> Part
     ensures { result ≡ label_part (handed_out (read_policy policy.now)) policy.now constant }
 {
-    match read(policy) {
-        Ok(index) => {
+    let mut index = empty();
+    match read(policy, &mut index) {
+        Ok(()) => {
             if constant < index.constants && labels::has_label(index.kinds[constant] as usize) {
                 let at = index.constant_at[constant];
                 return Part {

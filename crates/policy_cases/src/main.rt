@@ -9,8 +9,12 @@ const POLICIES: &str = "policies.bin";
 
 // One policy.
 fn case(rt: &impl Print, policy: &[u8]) -> io::Result<()> {
-    match policy::read(policy) {
-        Ok(x) => println!(rt; "accepted {} {} {}", x.constants, x.verbs, x.assertions),
+    let mut index = policy::empty();
+    match policy::read(policy, &mut index) {
+        Ok(()) => println!(rt;
+            "accepted {} {} {}",
+            index.constants, index.verbs, index.assertions
+        ),
         Err(why) => println!(rt; "refused {} {}", why.reason.number(), why.place),
     }
 }

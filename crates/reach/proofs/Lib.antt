@@ -1,5 +1,4 @@
 pub mod Joining
-pub mod Ones
 pub mod Linking
 pub mod Found
 pub mod Meaning

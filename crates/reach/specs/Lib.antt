@@ -1,3 +1,3 @@
+pub mod Marks
 pub mod Growth
 pub mod State
-pub mod Marks

@@ -9,7 +9,8 @@ use Prim.Native.Nat.{ℕ, zero, suc, ◌+◌, ◌≤◌, ◌<◌}
 use native.Mathlib.Omega.{arith}
 use lib.ListN.{length, get_or}
 use lib.Dec.{T}
-use borrow.Author.Tests.{eq-eqb}
+use borrow.Author.Tests.{eq-eqb, ne_eqb}
+use Rattle.model.proofs.Tests.{by_eq}
 use Rattle.model.specs.Lists.{pad}
 use Rattle.model.specs.Syntax.{Fact, flat, can_say, Link, Said, said, Assertion, World}
 use Rattle.model.specs.Kinds.{param_kinds}
@@ -18,15 +19,15 @@ use Rattle.model.specs.Closure.{Within, by}
 use Rattle.model.specs.Hierarchy as covering
 use Rattle.model.specs.Hierarchy.{child, onward, Replaced, end, stays, falls, Covers, nested}
 use Rattle.model.specs.Rules.{Rule, covers}
-use Rattle.model.proofs.ListFacts.{only_of, only_in, each_of, each_in}
+use Rattle.model.proofs.ListFacts.{only_of, each_of, each_in}
 use Rattle.model.proofs.ClosureFacts.{within→derives}
 use Rattle.fact.specs.Places.{verb_of, first_of, second_of, third_of, replaced_of, same_fact, number_of}
-use Rattle.rules.specs.Proper.{Below, SmallFact}
+use Rattle.rules.specs.Proper.{Sources, Below, SmallFact}
 use Rattle.rules.specs.Families.{ordered_of, other_gives, thirds_of, seconds_of, firsts_of, covers_of}
 use Rattle.rules.proofs.ExtendFacts.{In}
 use Rattle.rules.proofs.RoundLaw.{Given}
 use Rattle.rules.proofs.Good.{Good, good, below_at}
-use Rattle.rules.proofs.UseFacts.{Here, now_good, same_places}
+use Rattle.rules.proofs.UseFacts.{now_good, same_places}
 use Rattle.rules.proofs.FamilyFacts.{ordered_of_law, ordered_self, ordered_in_law}
 
 -- ---- the innermost verb and its parameters
@@ -76,21 +77,16 @@ three_of (a ∷ b ∷ c ∷ []) h = refl
 three_of (a ∷ b ∷ c ∷ e ∷ ps) h = absurd (omega arith)
 
 module _ (a d : ℕ) where
-  verb_key : (f : Fact ℕ) → Formed 3 f → verb_of (key (said a d f)) ≡ verb_in f
-  verb_key (flat s v ps) h = refl
-  verb_key (can_say s1 d1 (flat s v ps)) h = refl
-  verb_key (can_say s1 d1 (can_say s2 d2 (flat s v ps))) h = refl
-  verb_key (can_say s1 d1 (can_say s2 d2 (can_say s3 d3 (flat s v ps)))) h = refl
-  verb_key (can_say s1 d1 (can_say s2 d2 (can_say s3 d3 (can_say s4 d4 f)))) h = absurd h
-
   abbrev Fields : Fact ℕ → List ℕ → Type 0
-  Fields f l = (first_of (key (said a d f)) ≡ get_or l 0 0) × (second_of (key (said a d f)) ≡ get_or l 1 0) × (third_of (key (said a d f)) ≡ get_or l 2 0)
+  Fields f l =
+      (verb_of (key (said a d f)) ≡ verb_in f) × (first_of (key (said a d f)) ≡ get_or l 0 0) × (second_of (key (said a d f)) ≡ get_or l 1 0)
+      × (third_of (key (said a d f)) ≡ get_or l 2 0)
 
   padded_key : (f : Fact ℕ) → Formed 3 f → Fields f (pad 3 (params_in f))
-  padded_key (flat s v ps) h = (refl, refl, refl)
-  padded_key (can_say s1 d1 (flat s v ps)) h = (refl, refl, refl)
-  padded_key (can_say s1 d1 (can_say s2 d2 (flat s v ps))) h = (refl, refl, refl)
-  padded_key (can_say s1 d1 (can_say s2 d2 (can_say s3 d3 (flat s v ps)))) h = (refl, refl, refl)
+  padded_key (flat s v ps) h = (refl, refl, refl, refl)
+  padded_key (can_say s1 d1 (flat s v ps)) h = (refl, refl, refl, refl)
+  padded_key (can_say s1 d1 (can_say s2 d2 (flat s v ps))) h = (refl, refl, refl, refl)
+  padded_key (can_say s1 d1 (can_say s2 d2 (can_say s3 d3 (flat s v ps)))) h = (refl, refl, refl, refl)
   padded_key (can_say s1 d1 (can_say s2 d2 (can_say s3 d3 (can_say s4 d4 f)))) h = absurd h
 
   replaced_key : (f : Fact ℕ) → Formed 3 f → (qs : List ℕ) (x y z : ℕ) → pad 3 qs ≡ x ∷ y ∷ z ∷ []
@@ -177,7 +173,7 @@ module _ (H : List Link) (verb : ℕ) where
 
 -- ---- a round under way
 
-module _ {W : World} {𝒜 : List Assertion} {n round : ℕ} (E : Here W 𝒜 n round) where
+module _ {W : World} {𝒜 : List Assertion} (sources : Sources W 𝒜) (n round : ℕ) where
   abbrev H : List Link
   H = W.hierarchy
 
@@ -185,16 +181,16 @@ module _ {W : World} {𝒜 : List Assertion} {n round : ℕ} (E : Here W 𝒜 n 
   Now x = Within (Rule W 𝒜) n x
 
   children_small : (l : Link) → Memᴰ l H → l.child < 255
-  children_small l m = (E.sources.links l m).small
+  children_small l m = (sources.links l m).small
 
   -- no entry is about a place past the verb's parameters
   none_past : (verb : ℕ) → NonePast H verb (length (param_kinds W.verbs verb))
-  none_past verb position c x h (by (child m) k) = let i = (E.sources.links _ m).within in omega arith
-  none_past verb position c x h (by (onward m) k) = let i = (E.sources.links _ m).within in omega arith
+  none_past verb position c x h (by (child m) k) = let i = (sources.links _ m).within in omega arith
+  none_past verb position c x h (by (onward m) k) = let i = (sources.links _ m).within in omega arith
 
   module _ (a d : ℕ) (f : Fact ℕ) (w : Now (said a d f)) where
     g : Good W (said a d f)
-    g = now_good E (said a d f) w
+    g = now_good sources n round (said a d f) w
 
     abbrev ps : List ℕ
     ps = params_in f
@@ -207,7 +203,7 @@ module _ {W : World} {𝒜 : List Assertion} {n round : ℕ} (E : Here W 𝒜 n 
     arity = of f g.arity
       where
         of : (f : Fact ℕ) → Rattle.model.specs.Records.Arity W.verbs f → length (params_in f) ≡ length (param_kinds W.verbs (verb_in f))
-        of (flat s v ps) e = e
+        of (flat s v qs) e = e
         of (can_say s d f) e = of f e
 
     few : length ps ≤ 3
@@ -225,9 +221,8 @@ module _ {W : World} {𝒜 : List Assertion} {n round : ℕ} (E : Here W 𝒜 n 
     by_fields : covers_of round (key (said a d f)) H ≡ firsts_of round (key (said a d f)) (family 1 0) (family 2 1) (family 3 2)
     unfolding covers_of g
     by_fields =
-        let verb = verb_key a d f g.shape in
         let at = fields_key a d f g.shape in
-        λ i. firsts_of round (key (said a d f)) (ordered_of H (verb i) 1 (at.0 i)) (ordered_of H (verb i) 2 (at.1 i)) (ordered_of H (verb i) 3 (at.2 i))
+        λ i. firsts_of round (key (said a d f)) (ordered_of H (at.0 i) 1 (at.1 i)) (ordered_of H (at.0 i) 2 (at.2 i)) (ordered_of H (at.0 i) 3 (at.3 i))
 
     other_of : (x y z : ℕ) → Memᴰ x (family 1 0) → Memᴰ y (family 2 1) → Memᴰ z (family 3 2)
         → (c : List ℕ) → In c (other_gives round (key (said a d f)) x y z) → Given (Rule W 𝒜) key n round c
@@ -270,7 +265,14 @@ module _ {W : World} {𝒜 : List Assertion} {n round : ℕ} (E : Here W 𝒜 n 
     -- what is covered is the fact itself, or is given
     pub cover_in : (h : Fact ℕ) → Covers H f h → Now (said a d h) ⊎ In (round ∷ key (said a d h)) (covers_of round (key (said a d f)) H)
     unfolding firsts_of seconds_of thirds_of other_gives g
-    cover_in h c = go (same_fact (replaced_of (key (said a d f)) x y z) (key (said a d f))) refl
+    cover_in h c =
+        by_eq (number_of (replaced_of (key (said a d f)) x y z)) (number_of (key (said a d f)))
+        (λ e. inl (subst Now (sym (same_places sources (said a d h) (said a d f) covered g (eq-eqb _ _ (ap number_of (sym is) ∙ e)))) w))
+        (λ n. inr (subst (In (round ∷ key (said a d h))) (sym by_fields)
+        (each_in (seconds_of round (key (said a d f)) (family 2 1) (family 3 2)) (in_family 1 0 x (pointwise H v r.1 0))
+        (each_in (thirds_of round (key (said a d f)) (family 3 2) x) (in_family 2 1 y (pointwise H v r.1 1))
+        (each_in (other_gives round (key (said a d f)) x y) (in_family 3 2 z (pointwise H v r.1 2))
+        (rw (ne_eqb (number_of (replaced_of (key (said a d f)) x y z)) (number_of (key (said a d f))) n) (Memᴰ.head (ap (◌∷◌ round) (sym is)))))))))
       where
         r : (qs : List ℕ) × Replaced H v 1 true ps qs × (h ≡ with_params qs f)
         r = covers_is c
@@ -290,16 +292,5 @@ module _ {W : World} {𝒜 : List Assertion} {n round : ℕ} (E : Here W 𝒜 n 
             replaced_key a d f g.shape r.0 x y z (three_of r.0 few) ∙ ap (λ (h : Fact ℕ). key (said a d h)) (sym r.2)
 
         covered : Good W (said a d h)
-        covered = good W 𝒜 E.sources (said a d h) (within→derives (Rule W 𝒜) (said a d h) (suc n)
+        covered = good W 𝒜 sources (said a d h) (within→derives (Rule W 𝒜) (said a d h) (suc n)
             (inr (said a d f ∷ [], covers c, λ y m. subst Now (sym (Memᴰ.eq_of_singleton m)) w)))
-
-        go : (b : Bool) → same_fact (replaced_of (key (said a d f)) x y z) (key (said a d f)) ≡ b
-            → Now (said a d h) ⊎ In (round ∷ key (said a d h)) (covers_of round (key (said a d f)) H)
-        go true e = inl (subst Now (sym (same_places E (said a d h) (said a d f) covered g
-            (ap (λ (l : List ℕ). same_fact l (key (said a d f))) (sym is) ∙ e))) w)
-        go false e = inr (subst (In (round ∷ key (said a d h))) (sym by_fields)
-            (each_in (seconds_of round (key (said a d f)) (family 2 1) (family 3 2)) (in_family 1 0 x (pointwise H v r.1 0))
-            (each_in (thirds_of round (key (said a d f)) (family 3 2) x) (in_family 2 1 y (pointwise H v r.1 1))
-            (each_in (other_gives round (key (said a d f)) x y) (in_family 3 2 z (pointwise H v r.1 2))
-            (only_in (not (same_fact (replaced_of (key (said a d f)) x y z) (key (said a d f)))) (subst (λ (b : Bool). T (not b)) (sym e) tt)
-            (ap (◌∷◌ round) (sym is)))))))

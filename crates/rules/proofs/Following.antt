@@ -1,14 +1,14 @@
 -- What a step of each mode goes on with: every mode goes on from bindings that are carried on, and from one where there is any.
-use mathlib.Core.Path.{◌≡◌, refl, sym, ap, subst, ◌∙◌}
+use mathlib.Core.Path.{sym, ◌≡◌, refl, ap, subst, ◌∙◌}
 use mathlib.Core.Logic.{◌⊎◌, inl, inr}
+use mathlib.Core.Bool.{cond}
 use mathlib.Core.Option.{Option, none, some}
 use mathlib.Core.List.Memᴰ
-use mathlib.Core.List.{List, [], ◌∷◌}
+use mathlib.Core.List.{List, [], ◌∷◌, ◌++◌}
 use Prim.Native.Nat.{ℕ}
-use Rattle.model.proofs.ListFacts.{each_of}
+use Rattle.model.specs.Lists.{each}
 use Rattle.rules.specs.Matching.{follow, first_only, or_next, first_of}
-use Rattle.rules.specs.Plan.{Mode, every, enough, once, look}
-use Rattle.rules.specs.Cond.{go_on}
+use Rattle.rules.specs.Plan.{Mode, finds}
 use Rattle.rules.proofs.ExtendFacts.{L, In}
 
 -- ---- what a match goes on with
@@ -22,10 +22,6 @@ follow_in o go r τ e m = rw e m
 
 -- ---- the first binding
 
-pub only_of : (go : List ℕ → L) (τs : L) {r : List ℕ} → In r (first_only go τs) → (τ : List ℕ) × In τ τs × In r (go τ)
-only_of go [] m = absurd (Memᴰ.not-nil m)
-only_of go (τ ∷ τs) m = (τ, Memᴰ.head refl, m)
-
 pub only_in : (τs : L) {τ : List ℕ} → In τ τs → (σ : List ℕ) × In σ τs × ((go : List ℕ → L) → first_only go τs ≡ go σ)
 only_in [] m = absurd (Memᴰ.not-nil m)
 only_in (σ ∷ τs) m = (σ, Memᴰ.head refl, λ go. refl)
@@ -33,14 +29,16 @@ only_in (σ ∷ τs) m = (σ, Memᴰ.head refl, λ go. refl)
 -- ---- the first that gives something
 
 module _ (f : List ℕ → L) where
-  pub first_of_law : (l : L) {r : List ℕ} → In r (first_of f l) → (y : List ℕ) × In y l × In r (f y)
-  first_of_law [] m = absurd (Memᴰ.not-nil m)
-  first_of_law (x ∷ l) {r} m = go (f x) refl m (first_of_law l)
+  pub first_that : (l : L) {r : List ℕ} → In r (first_of f l)
+      → (before after : L) × (y : List ℕ) × (before ++ y ∷ after ≡ l) × (each before f ≡ []) × In r (f y)
+  first_that [] m = absurd (Memᴰ.not-nil m)
+  first_that (x ∷ l) {r} m = go (f x) refl m (first_that l)
     where
-      go : (k : L) → f x ≡ k → In r (or_next k (first_of f l)) → (In r (first_of f l) → (y : List ℕ) × In y l × In r (f y))
-          → (y : List ℕ) × In y (x ∷ l) × In r (f y)
-      go [] q m ih = let s = ih m in (s.0, Memᴰ.tail s.1, s.2)
-      go (c ∷ k) q m ih = (x, Memᴰ.head refl, subst (In r) (sym q) m)
+      go : (k : L) → f x ≡ k → In r (or_next k (first_of f l))
+          → (In r (first_of f l) → (before after : L) × (y : List ℕ) × (before ++ y ∷ after ≡ l) × (each before f ≡ []) × In r (f y))
+          → (before after : L) × (y : List ℕ) × (before ++ y ∷ after ≡ x ∷ l) × (each before f ≡ []) × In r (f y)
+      go [] q m ih = let s = ih m in (x ∷ s.0, s.1, s.2, ap (◌∷◌ x) s.3, ap (λ (k : L). k ++ each s.0 f) q ∙ s.4, s.5)
+      go (c ∷ k) q m ih = ([], l, x, refl, refl, subst (In r) (sym q) m)
 
   -- one that gives something gives something for all
   pub first_in : (l : L) (y : List ℕ) {r : List ℕ} → In y l → In r (f y) → (c : List ℕ) × In c (first_of f l)
@@ -55,14 +53,4 @@ module _ (f : List ℕ → L) where
 -- ---- where a step goes on from
 
 abbrev pub onward : Mode → List ℕ → List ℕ → List ℕ
-onward every θ τ = τ
-onward enough θ τ = τ
-onward once θ τ = τ
-onward look θ τ = θ
-
-pub go_of : (m : Mode) (go : List ℕ → L) (θ : List ℕ) (τs : L) {r : List ℕ} → In r (go_on m go θ τs) → (τ : List ℕ) × In τ τs × In r (go (onward m θ τ))
-unfolding go_on
-go_of every go θ τs i = each_of go τs i
-go_of enough go θ τs i = first_of_law go τs i
-go_of once go θ τs i = only_of go τs i
-go_of look go θ τs i = only_of (λ (τ : List ℕ). go θ) τs i
+onward m θ τ = cond (finds m) τ θ

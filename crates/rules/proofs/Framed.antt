@@ -1,14 +1,14 @@
 -- A frame of a laid-out assertion is over the model: its kinds and constraints are the assertion's, its head and body rows are the places of the instances,
 -- and its plan is right.
 use mathlib.Core.Path.{◌≡◌, refl, sym, ap, ap₂, subst, ◌∙◌}
-use mathlib.Core.Logic.{◌⊎◌, ⊎_elim}
+use mathlib.Core.Logic.{◌⊎◌}
 use mathlib.Core.Bool.{Bool, true}
 use mathlib.Core.List.Memᴰ
 use mathlib.Core.List.{List, [], ◌∷◌, map, Memᴰ}
-use Prim.Native.Nat.{ℕ, zero, suc, ◌≤◌, ◌<◌}
-use native.Mathlib.Nat.{mod-eq_of_lt, not-suc-le-zero}
+use Prim.Native.Nat.{ℕ, ◌≤◌, ◌<◌}
+use native.Mathlib.Nat.{mod-eq_of_lt}
 use native.Mathlib.Omega.{arith}
-use lib.ListN.{length, get_or, length-map}
+use lib.ListN.{length, get_or}
 use lib.Dec.{T}
 use Rattle.model.specs.Limits.{max_nest}
 use Rattle.model.specs.Lists.{all}
@@ -18,34 +18,23 @@ use Rattle.model.specs.Values.{bound, kinds_of, bindings_of, passes}
 use Rattle.model.specs.Rules.{depths, head_of, body_of}
 use Rattle.model.specs.Records.{key, Fitting}
 use Rattle.model.proofs.ListFacts.{all_of_law, all_in}
+use Rattle.model.proofs.DecisionFacts.{get_d_in, in_get_d}
 use Rattle.model.proofs.BindingFacts.{at_variable}
 use Rattle.model.proofs.RecordFacts.{arity_map}
-use Rattle.model.proofs.ShapeFacts.{map_formed, key_length}
+use Rattle.model.proofs.ShapeFacts.{map_formed}
 use Rattle.model.proofs.Tests.{T_true}
+use Rattle.model.proofs.WorldFacts.{passes_world}
 use Rattle.rules.specs.Rows.{row_of, no_fact}
 use Rattle.rules.specs.Patterns.{Pattern, Frame}
 use Rattle.rules.specs.Cond.{field, head_entry, body_row}
 use Rattle.rules.specs.Proper.{Proper, HasAll, Below, Sources}
-use Rattle.rules.specs.Laid.{no_test, Laid}
+use Rattle.rules.specs.Laid.{no_test, Laid, Agree}
 use Rattle.rules.specs.Valid.{Valid}
 use Rattle.rules.proofs.ExtendFacts.{L, Over}
-use Rattle.rules.proofs.RowFacts.{row_key}
+use Rattle.rules.proofs.RowFacts.{row_key, row_length}
 use Rattle.rules.proofs.StepFacts.{GroundTable, Search}
 use Rattle.rules.proofs.LeftFacts.{Sound}
 use Rattle.rules.proofs.Good.{Good, depth_small, key_below}
-
--- ---- elements by their numbers
-
-pub at_some : {A : Type 0} (d x : A) (l : List A) → Memᴰ x l → (i : ℕ) × (i < length l) × (x ≡ get_or l i d)
-at_some d x [] m = absurd (Memᴰ.not-nil m)
-at_some d x (y ∷ l) m =
-    ⊎_elim (λ (e : x ≡ y). (0, omega arith, e)) (λ h. let r = at_some d x l h in (suc r.0, (let k : r.0 < length l = r.1 in omega arith), r.2))
-    (Memᴰ.cases_cons m)
-
-pub some_at : {A : Type 0} (d : A) (l : List A) (i : ℕ) → i < length l → Memᴰ (get_or l i d) l
-some_at d [] i h = absurd (not-suc-le-zero h)
-some_at d (x ∷ l) zero h = Memᴰ.head refl
-some_at d (x ∷ l) (suc i) h = Memᴰ.tail (some_at d l i (omega arith))
 
 -- constants below 255 stand in a fact as they are
 fields : (θ : List ℕ) (es : List Expr) → Below (map (bound θ) es) → map (field θ) es ≡ map (bound θ) es
@@ -56,45 +45,34 @@ fields θ (e ∷ es) b = ap₂ ◌∷◌ (mod-eq_of_lt (let h : bound θ e < 255
 pub sound : {W : World} {a : Assertion} {p : Pattern} → Proper W a → Laid W a p → Sound p
 sound {W} {a} {p} P L = record {
   few = omega (arith, L.bodies, L.few);
-  head = omega (
-    arith,
-    ap length L.head,
-    length-map (row_of a.head) (bound []),
-    ap length (row_key [] 0 0 a.head),
-    key_length (said 0 0 (map_fact (bound []) a.head)) (map_formed (bound []) max_nest a.head P.heads.shape),
-  );
+  head = omega (arith, ap length L.head, row_length a.head P.heads.shape);
   rows = λ i h.
       let l : i < length a.body = omega (arith, L.bodies) in
-      subst (HasAll 8) (sym (L.body i l)) (P.rows (get_or a.body i no_fact) (some_at no_fact a.body i l));
+      subst (HasAll 8) (sym (L.body i l)) (P.rows (get_or a.body i no_fact) (get_d_in no_fact a.body i l));
   tests = λ i h v m.
       let l : i < length a.tests = omega (arith, L.tests) in
-      let o = P.occurs (get_or a.tests i no_test) (some_at no_test a.tests i l) v (subst (λ (c : Constraint). Memᴰ v (vars_test c)) (L.test i l) m) in
+      let o = P.occurs (get_or a.tests i no_test) (get_d_in no_test a.tests i l) v (subst (λ (c : Constraint). Memᴰ v (vars_test c)) (L.test i l) m) in
       (o.0, λ z. o.1 (sym (L.kinds v o.0) ∙ z));
 }
 
 -- The frame F is of the assertion a, one of those that count, at one of the depths; what is asked of assertions holds.
-pub record Framed (𝒜 : List Assertion) (F : Frame) (a : Assertion) : Type 0 where
-  pub few : length F.world.constants ≤ 255
-  pub kinds : F.kinds ≡ map (λ (c : Constant). c.kind) F.world.constants
-  pub sources : Sources F.world 𝒜
-  pub proper : Proper F.world a
-  pub laid : Laid F.world a F.pattern
+pub record Framed (W : World) (𝒜 : List Assertion) (F : Frame) (a : Assertion) : Type 0 where
+  pub agree : Agree F.world W
+  pub few : length W.constants ≤ 255
+  pub kinds : F.kinds ≡ map (λ (c : Constant). c.kind) W.constants
+  pub sources : Sources W 𝒜
+  pub proper : Proper W a
+  pub laid : Laid W a F.pattern
   pub counts : Memᴰ a 𝒜
   pub depth : Memᴰ F.depth depths
   pub plans : (skip : ℕ) → (skip ≡ 0) ⊎ (skip < F.pattern.bodies) → Valid F.pattern skip (F.pattern.plan skip)
 
-module _ {𝒜 : List Assertion} {F : Frame} {a : Assertion} (S : Framed 𝒜 F a) where
-  abbrev pub W : World
-  W = F.world
-
+module _ {W : World} {𝒜 : List Assertion} {F : Frame} {a : Assertion} (S : Framed W 𝒜 F a) where
   abbrev pub d : ℕ
   d = F.depth
 
   abbrev pub ks : List ℕ
   ks = map (kinds_of W a) variables
-
-  abbrev pub bodies : ℕ
-  bodies = F.pattern.bodies
 
   abbrev pub hold : List ℕ → Bool
   hold θ = all (passes W θ) a.tests
@@ -107,19 +85,18 @@ module _ {𝒜 : List Assertion} {F : Frame} {a : Assertion} (S : Framed 𝒜 F 
   over : Over F W.constants ks
   over = record { few = S.few; constants = S.kinds; eight = refl; kinds = λ v l. S.laid.kinds v l ∙ sym (at_variable (kinds_of W a) v l) }
 
-  -- its constraints are the assertion's
-  pub tests_of_law : (θ : List ℕ) → hold θ ≡ true → (i : ℕ) → i < F.pattern.tests → passes W θ (F.pattern.test i) ≡ true
-  tests_of_law θ e i h =
-      let l : i < length a.tests = omega (arith, S.laid.tests) in
-      ap (passes W θ) (S.laid.test i l) ∙ T_true _ (all_of_law (passes W θ) (subst T (sym e) tt) (some_at no_test a.tests i l))
+  -- its constraints are the assertion's, and tested alike
+  tested : (θ : List ℕ) (c : Constraint) → passes F.world θ c ≡ passes W θ c
+  tested θ c = passes_world F.world W θ c S.agree.constants S.agree.today
 
-  pub tests_in_law : (θ : List ℕ) → ((i : ℕ) → i < F.pattern.tests → passes W θ (F.pattern.test i) ≡ true) → hold θ ≡ true
-  tests_in_law θ h = T_true _ (all_in (passes W θ) a.tests (λ c m. one c (at_some no_test c a.tests m)))
-    where
-      one : (c : Constraint) → (i : ℕ) × (i < length a.tests) × (c ≡ get_or a.tests i no_test) → T (passes W θ c)
-      one c i =
-          let l : i.0 < length a.tests = i.1 in
-          subst T (sym (ap (passes W θ) (i.2 ∙ sym (S.laid.test i.0 l)) ∙ h i.0 (omega (arith, S.laid.tests)))) tt
+  pub tests_of_law : (θ : List ℕ) → T (hold θ) → (i : ℕ) → i < F.pattern.tests → passes F.world θ (F.pattern.test i) ≡ true
+  tests_of_law θ t i h =
+      let l : i < length a.tests = omega (arith, S.laid.tests) in
+      tested θ (F.pattern.test i) ∙ ap (passes W θ) (S.laid.test i l) ∙ T_true _ (all_of_law (passes W θ) t (get_d_in no_test a.tests i l))
+
+  pub tests_in_law : (θ : List ℕ) → ((i : ℕ) → i < F.pattern.tests → passes F.world θ (F.pattern.test i) ≡ true) → T (hold θ)
+  tests_in_law θ h = all_in (passes W θ) a.tests (λ c m. let i = in_get_d no_test m in let l : i.0 < length a.tests = i.1 in
+      rw (← i.2, ← S.laid.test i.0 l, ← tested θ (F.pattern.test i.0), h i.0 (omega (arith, S.laid.tests))) tt)
 
   -- ---- its facts
 
@@ -128,7 +105,7 @@ module _ {𝒜 : List Assertion} {F : Frame} {a : Assertion} (S : Framed 𝒜 F 
   fact_at θ i = said a.issuer d (map_fact (bound θ) (get_or a.body i no_fact))
 
   pub body_there : (θ : List ℕ) (i : ℕ) → i < length a.body → Memᴰ (fact_at θ i) (body_of a d θ)
-  body_there θ i h = Memᴰ.map (λ (f : Fact Expr). said a.issuer d (map_fact (bound θ) f)) (some_at no_fact a.body i h)
+  body_there θ i h = Memᴰ.map (λ (f : Fact Expr). said a.issuer d (map_fact (bound θ) f)) (get_d_in no_fact a.body i h)
 
   row_is : (i : ℕ) → i < length a.body → body_row F i ≡ con a.issuer ∷ con d ∷ row_of (get_or a.body i no_fact)
   row_is i h = ap₂ (λ (j : ℕ) (r : List Expr). con j ∷ con d ∷ r) S.laid.issuer (S.laid.body i h)
@@ -154,9 +131,4 @@ module _ {𝒜 : List Assertion} {F : Frame} {a : Assertion} (S : Framed 𝒜 F 
       ap₂ (λ (i : ℕ) (l : List ℕ). F.round ∷ i ∷ d ∷ l) S.laid.issuer (fields θ F.pattern.head b.1.1) ∙ ap (◌∷◌ F.round) (head_bound_law θ)
 
   pub search : (t : L) → GroundTable t → Search F W.constants ks t
-  search t ground = record { over = over; rows = rows; ground_facts = ground }
-    where
-      rows : (i : ℕ) → i < bodies → HasAll 8 (body_row F i)
-      rows i h =
-          let l : i < length a.body = omega (arith, S.laid.bodies) in
-          subst (HasAll 8) (sym (row_is i l)) (tt, (tt, S.proper.rows (get_or a.body i no_fact) (some_at no_fact a.body i l)))
+  search t ground = record { over = over; rows = λ i h. (tt, (tt, (sound S.proper S.laid).rows i h)); ground_facts = ground }

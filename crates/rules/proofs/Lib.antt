@@ -15,6 +15,7 @@ pub mod CarriedFacts
 pub mod TestedOnce
 pub mod VisitedFacts
 pub mod CondFacts
+pub mod Instances
 pub mod SemiNaive
 pub mod RoundLaw
 pub mod Good

@@ -1,29 +1,32 @@
 -- A mode is chosen only where it is right: what nothing else uses is in no step that comes later, nor in the head.
 use mathlib.Core.Path.{◌≡◌, refl, sym, ap, subst, ◌∙◌}
 use mathlib.Core.Logic.{⊎_elim, ◌≢◌}
-use mathlib.Core.Bool.{Bool, true, false, cond, true≢false}
+use mathlib.Core.Bool.{Bool, true, false, cond}
 use mathlib.Core.List.Memᴰ
-use mathlib.Core.List.{List, [], ◌∷◌, Memᴰ}
+use mathlib.Core.List.{List, [], ◌∷◌, ◌++◌, Memᴰ}
 use Prim.Native.Nat.{ℕ, zero, suc, ◌<◌}
-use native.Mathlib.Nat.{not-suc-le-zero}
-use native.Mathlib.Decide.{ℕ_discrete}
 use native.Mathlib.Omega.{arith}
 use lib.ListN.{length, get_or, set}
+use Rattle.std.proofs.lemmas.Bool.{cond_both}
 use Rattle.model.specs.Limits.{unbound}
 use Rattle.model.specs.Syntax.{Expr, con, var, today, vars_test}
 use Rattle.model.specs.Values.{bound}
 use Rattle.constraints.specs.Told.{told_both}
 use Rattle.rules.specs.Matching.{at}
-use Rattle.rules.specs.Plan.{Part, body_fact, variable, every, enough, once, finds, Step}
+use Rattle.rules.specs.Plan.{Part, body_fact, variable, Mode, every, enough, once, finds, Step}
 use Rattle.rules.specs.Patterns.{Pattern}
 use Rattle.rules.specs.Cond.{unbound8}
 use Rattle.rules.specs.Proper.{Has, HasAll}
 use Rattle.rules.specs.Valid.{marked, exprs_of, Unused, Suits}
 use Rattle.rules.specs.Planning.{head_bound, is_left, with_fact, used_tests, used_facts, used_later, is_apart, mode_by_head, mode_of}
-use Rattle.rules.specs.Planning.{sides}
+use Rattle.rules.specs.Planning.{sides, below}
+use Rattle.rules.specs.Families.{down_from}
+use Rattle.model.specs.Lists.{each, only}
+use Rattle.model.proofs.ListFacts.{each_in}
+use Rattle.rules.proofs.FamilyFacts.{down_in}
 use Rattle.rules.proofs.StepFacts.{Marks}
-use Rattle.rules.proofs.MarkFacts.{marks_trans, marked_long, marked_grows, marked_in, told_grows, in_sides}
-use Rattle.rules.proofs.MarkFacts.{bound_of, apart_of}
+use Rattle.rules.proofs.MarkFacts.{marked_in, told_grows, in_sides}
+use Rattle.rules.proofs.MarkFacts.{bound_of, apart_of, below_in}
 use Rattle.rules.proofs.LeftFacts.{Sound, left_there}
 
 -- a variable of such a row is below 8
@@ -37,6 +40,12 @@ placed [] v m = absurd (Memᴰ.not-nil m)
 placed (e ∷ es) v m =
     ⊎_elim (λ q. (0, omega arith, sym q)) (λ k. let r = placed es v k in (suc r.0, (let l : r.0 < length es = r.1 in omega arith), r.2))
     (Memᴰ.cases_cons m)
+
+marked_append : (β : List ℕ) (es fs : List Expr) → marked β (es ++ fs) ≡ marked (marked β es) fs
+marked_append β [] fs = refl
+marked_append β (con c ∷ es) fs = marked_append β es fs
+marked_append β (var v ∷ es) fs = marked_append (set β v 0) es fs
+marked_append β (today ∷ es) fs = marked_append β es fs
 
 module _ {p : Pattern} (S : Sound p) where
   -- ---- what comes later
@@ -62,83 +71,44 @@ module _ {p : Pattern} (S : Sound p) where
       go (body_fact i) e = h i e
       go (variable v) e = b.of v e
 
-  -- ---- what nothing else uses
+  -- ---- what something else uses is in the rows of the head, of the body facts that are left, and of the constraints that are not told
 
-  tests_grow : (n : ℕ) (β used : List ℕ) → Marks used (used_tests p n β used)
-  unfolding used_tests
-  tests_grow zero β used = record { of = λ v z. z }
-  tests_grow (suc n) β used = marks_trans (go (told_both β (p.test n))) (tests_grow n β _)
+  facts_are : (n : ℕ) (met used : List ℕ) → used_facts p n met used ≡ marked used (each (below n (is_left p met)) p.body)
+  unfolding used_facts below
+  facts_are zero met used = refl
+  facts_are (suc n) met used = facts_are n met _ ∙ go (is_left p met n)
     where
-      go : (b : Bool) → Marks used (cond b used (marked used (sides (p.test n))))
-      go true = record { of = λ v z. z }
-      go false = marked_grows (sides (p.test n)) used
-
-  tests_in_law : (n : ℕ) (β used : List ℕ) → length used ≡ 8 → (i : ℕ) → i < n → told_both β (p.test i) ≡ false → (v : ℕ) → v < 8
-      → Memᴰ v (vars_test (p.test i)) → at (used_tests p n β used) v ≢ unbound
-  unfolding used_tests
-  tests_in_law zero β used h i l e v v8 m = absurd (not-suc-le-zero l)
-  tests_in_law (suc n) β used h i l e v v8 m = go (ℕ_discrete i n) (told_both β (p.test n)) refl (λ u h k. tests_in_law n β u h i k e v v8 m)
-    where
-      go : Dec (i ≡ n) → (b : Bool) → told_both β (p.test n) ≡ b → ((u : List ℕ) → length u ≡ 8 → i < n → at (used_tests p n β u) v ≢ unbound)
-          → at (used_tests p n β (cond b used (marked used (sides (p.test n))))) v ≢ unbound
-      go (yes q) true f ih = absurd (true≢false (sym f ∙ ap (λ (j : ℕ). told_both β (p.test j)) (sym q) ∙ e))
-      go (yes q) false f ih =
-          λ z. marked_in (sides (p.test n)) used v (in_sides (p.test n) v (subst (λ (j : ℕ). Memᴰ v (vars_test (p.test j))) q m)) (rw h v8)
-          ((tests_grow n β (marked used (sides (p.test n)))).of v z)
-      go (no q) true f ih = ih used h (omega (arith, q))
-      go (no q) false f ih = ih (marked used (sides (p.test n))) (marked_long (sides (p.test n)) used ∙ h) (omega (arith, q))
-
-  facts_grow : (n : ℕ) (met used : List ℕ) → Marks used (used_facts p n met used)
-  unfolding used_facts
-  facts_grow zero met used = record { of = λ v z. z }
-  facts_grow (suc n) met used = marks_trans (go (is_left p met n)) (facts_grow n met _)
-    where
-      go : (b : Bool) → Marks used (cond b (marked used (p.body n)) used)
-      go true = marked_grows (p.body n) used
-      go false = record { of = λ v z. z }
-
-  facts_long : (n : ℕ) (met used : List ℕ) → length (used_facts p n met used) ≡ length used
-  unfolding used_facts
-  facts_long zero met used = refl
-  facts_long (suc n) met used = facts_long n met _ ∙ go (is_left p met n)
-    where
-      go : (b : Bool) → length (cond b (marked used (p.body n)) used) ≡ length used
-      go true = marked_long (p.body n) used
+      go : (b : Bool) → marked (cond b (marked used (p.body n)) used) (each (below n (is_left p met)) p.body)
+          ≡ marked used (each (only b n ++ below n (is_left p met)) p.body)
+      go true = sym (marked_append used (p.body n) _)
       go false = refl
 
-  facts_in : (n : ℕ) (met used : List ℕ) → length used ≡ 8 → (i : ℕ) → i < n → is_left p met i ≡ true → (v : ℕ) → v < 8 → Memᴰ (var v) (p.body i)
-      → at (used_facts p n met used) v ≢ unbound
-  unfolding used_facts
-  facts_in zero met used h i l e v v8 m = absurd (not-suc-le-zero l)
-  facts_in (suc n) met used h i l e v v8 m = go (ℕ_discrete i n) (is_left p met n) refl (λ u h k. facts_in n met u h i k e v v8 m)
+  abbrev open_rows : List ℕ → ℕ → List Expr
+  open_rows β i = cond (told_both β (p.test i)) [] (sides (p.test i))
+
+  tests_are : (n : ℕ) (β used : List ℕ) → used_tests p n β used ≡ marked used (each (down_from n) (open_rows β))
+  unfolding used_tests down_from
+  tests_are zero β used = refl
+  tests_are (suc n) β used = tests_are n β _ ∙ go (told_both β (p.test n))
     where
-      go : Dec (i ≡ n) → (b : Bool) → is_left p met n ≡ b → ((u : List ℕ) → length u ≡ 8 → i < n → at (used_facts p n met u) v ≢ unbound)
-          → at (used_facts p n met (cond b (marked used (p.body n)) used)) v ≢ unbound
-      go (yes q) false f ih = absurd (true≢false (sym e ∙ ap (is_left p met) q ∙ f))
-      go (yes q) true f ih =
-          λ z. marked_in (p.body n) used v (subst (λ (j : ℕ). Memᴰ (var v) (p.body j)) q m) (rw h v8)
-          ((facts_grow n met (marked used (p.body n))).of v z)
-      go (no q) true f ih = ih (marked used (p.body n)) (marked_long (p.body n) used ∙ h) (omega (arith, q))
-      go (no q) false f ih = ih used h (omega (arith, q))
+      go : (b : Bool) → marked (cond b used (marked used (sides (p.test n)))) (each (down_from n) (open_rows β))
+          ≡ marked used (cond b [] (sides (p.test n)) ++ each (down_from n) (open_rows β))
+      go true = refl
+      go false = sym (marked_append used (sides (p.test n)) _)
 
   -- ---- a mode is right before the steps ss
 
   -- that by the head, for any part
   pub head_suits : (β : List ℕ) (x : Part) (ss : List Step) → Suits p (mode_by_head p β) x β ss
-  head_suits β x ss = go (head_bound p β) refl
+  head_suits β x ss = cond_both (head_bound p β) enough every (λ (m : Mode). Suits p m x β ss) bound_all (λ f. tt)
     where
-      go : (b : Bool) → head_bound p β ≡ b → Suits p (cond b enough every) x β ss
-      go false f = tt
-      go true f = λ v m. let r = placed p.head v m in
-          let l : r.0 < length p.head = r.1 in
-          subst (λ (e : Expr). bound β e ≢ unbound) r.2 (bound_of p.head β 12 f r.0 (omega (arith, S.head)))
+      bound_all : head_bound p β ≡ true → (v : ℕ) → Memᴰ (var v) p.head → at β v ≢ unbound
+      bound_all f v m =
+          let r = placed p.head v m in
+          subst (λ (e : Expr). bound β e ≢ unbound) r.2 (bound_of p.head β 12 f r.0 (omega (arith, r.1, S.head)))
 
   pub head_finds : (β : List ℕ) → finds (mode_by_head p β) ≡ true
-  head_finds β = go (head_bound p β)
-    where
-      go : (b : Bool) → finds (cond b enough every) ≡ true
-      go true = refl
-      go false = refl
+  head_finds β = cond_both (head_bound p β) enough every (λ (m : Mode). finds m ≡ true) (λ f. refl) (λ f. refl)
 
   -- that of body fact i
   module _ (met β : List ℕ) (i : ℕ) (ss : List Step) (l8 : length β ≡ 8) (there : i < p.bodies)
@@ -149,15 +119,19 @@ module _ {p : Pattern} (S : Sound p) where
     abbrev β' : List ℕ
     β' = with_fact p β i
 
-    abbrev heads : List ℕ
-    heads = marked unbound8 p.head
+    abbrev rows : List Expr
+    rows = p.head ++ (each (below 4 (is_left p met')) p.body ++ each (down_from p.tests) (open_rows β'))
 
-    abbrev used : List ℕ
-    used = used_later p met' β'
+    used_are : used_later p met' β' ≡ marked unbound8 rows
+    used_are =
+        tests_are p.tests β' (used_facts p 4 met' (marked unbound8 p.head))
+        ∙ ap (λ (u : List ℕ). marked u (each (down_from p.tests) (open_rows β'))) (facts_are 4 met' (marked unbound8 p.head))
+        ∙ sym (marked_append (marked unbound8 p.head) (each (below 4 (is_left p met')) p.body) _)
+        ∙ sym (marked_append unbound8 p.head _)
 
     unused : is_apart p met β i ≡ true → (v : ℕ) → Memᴰ (var v) (p.body i) → at β v ≡ unbound → Unused p ss v
     unfolding is_apart
-    unused e v m z = record { head = in_head; rows = in_rows; tests = in_tests }
+    unused e v m z = record { head = λ k. nowhere (Memᴰ.append_left _ k); rows = in_rows; tests = in_tests }
       where
         v8 : v < 8
         v8 = small (p.body i) (S.rows i there) v m
@@ -165,23 +139,18 @@ module _ {p : Pattern} (S : Sound p) where
         now : at β' v ≢ unbound
         now = marked_in (p.body i) β v m (rw l8 v8)
 
-        free : at used v ≡ unbound
-        free = apart_of 8 β β' used e v v8 z now
-
-        facts : at (used_facts p 4 met' heads) v ≡ unbound
-        facts = (tests_grow p.tests β' (used_facts p 4 met' heads)).of v free
-
-        heads8 : length heads ≡ 8
-        heads8 = marked_long p.head unbound8
-
-        in_head : Memᴰ (var v) p.head → ⊥
-        in_head k = marked_in p.head unbound8 v k v8 ((facts_grow 4 met' heads).of v facts)
+        nowhere : Memᴰ (var v) rows → ⊥
+        nowhere k =
+            let free = apart_of 8 β β' (used_later p met' β') e v v8 z now in
+            marked_in rows unbound8 v k v8 (ap (λ (u : List ℕ). at u v) (sym used_are) ∙ free)
 
         in_rows : (s : Step) → Memᴰ s ss → Memᴰ (var v) (exprs_of p s.part) → ⊥
         in_rows s k n = go s.part (ahead s k).part n
           where
             go : (x : Part) → Ahead met' β' x → Memᴰ (var v) (exprs_of p x) → ⊥
-            go (body_fact j) a n = facts_in 4 met' heads heads8 j (let b = (left_there S met' j a).0 in omega (arith, S.few)) a v v8 n facts
+            go (body_fact j) a n =
+                let j4 : j < 4 = (let b = (left_there S met' j a).0 in omega (arith, S.few)) in
+                nowhere (Memᴰ.append_right p.head (Memᴰ.append_left _ (each_in p.body (below_in 4 (is_left p met') j j4 a) n)))
             go (variable w) a n = now (ap (at β') (same (Memᴰ.eq_of_singleton n)) ∙ a)
               where
                 same : var v ≡ var w → v ≡ w
@@ -190,20 +159,15 @@ module _ {p : Pattern} (S : Sound p) where
         in_tests : (s : Step) → Memᴰ s ss → (j : ℕ) → Memᴰ j s.tests → Memᴰ v (vars_test (p.test j)) → ⊥
         in_tests s k j n o =
             let t = (ahead s k).tests j n in
-            tests_in_law p.tests β' (used_facts p 4 met' heads) (facts_long 4 met' heads ∙ heads8) j t.0 t.1 v v8 o free
+            let row : Memᴰ (var v) (open_rows β' j) = rw t.1 (in_sides (p.test j) v o) in
+            nowhere (Memᴰ.append_right p.head (Memᴰ.append_right (each (below 4 (is_left p met')) p.body)
+            (each_in (open_rows β') (down_in p.tests j t.0) row)))
 
     pub suits : Suits p (mode_of p met β i) (body_fact i) β ss
     unfolding mode_of
-    suits = go (is_apart p met β i) refl
-      where
-        go : (a : Bool) → is_apart p met β i ≡ a → Suits p (cond a once (mode_by_head p β)) (body_fact i) β ss
-        go true e = unused e
-        go false e = head_suits β (body_fact i) ss
+    suits =
+        cond_both (is_apart p met β i) once (mode_by_head p β) (λ (m : Mode). Suits p m (body_fact i) β ss) unused (λ e. head_suits β (body_fact i) ss)
 
   pub mode_finds : (met β : List ℕ) (i : ℕ) → finds (mode_of p met β i) ≡ true
   unfolding mode_of
-  mode_finds met β i = go (is_apart p met β i)
-    where
-      go : (a : Bool) → finds (cond a once (mode_by_head p β)) ≡ true
-      go true = refl
-      go false = head_finds β
+  mode_finds met β i = cond_both (is_apart p met β i) once (mode_by_head p β) (λ (m : Mode). finds m ≡ true) (λ a. refl) (λ a. head_finds β)

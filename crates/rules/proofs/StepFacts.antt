@@ -1,17 +1,16 @@
 -- One step of the search: the binding that an entry carries on fits, and so does every binding that goes on from it; its constraints stay as they are.
 use mathlib.Core.Path.{◌≡◌, refl, sym, ap, subst, ◌∙◌}
-use mathlib.Core.Logic.{inr, ⊎_elim, ◌≢◌}
-use mathlib.Core.Bool.{Bool, true, false, cond, true≢false}
+use mathlib.Core.Logic.{⊎_elim, ◌≢◌}
+use mathlib.Core.Bool.{Bool, true, false, cond}
 use mathlib.Core.Option.{some}
 use mathlib.Core.List.Memᴰ
 use mathlib.Core.List.{List, [], ◌∷◌, map, Memᴰ}
 use Prim.Native.Nat.{ℕ, ◌+◌, ◌≤◌, ◌<◌}
-use native.Mathlib.Decide.{ℕ_discrete}
 use native.Mathlib.Omega.{arith}
 use lib.ListN.{length, set, length-map}
 use lib.Seq.{get_or-set_other}
-use lib.Dec.{T, eqb, ltb}
-use borrow.Author.Tests.{ne_eqb, ltb-true}
+use lib.Dec.{T}
+use borrow.Author.Tests.{ne_eqb, lt-ltb, le-ltb}
 use Rattle.model.specs.Limits.{unbound}
 use Rattle.model.specs.Lists.{only}
 use Rattle.model.specs.Syntax.{Expr, con, var, today, Constant}
@@ -19,27 +18,23 @@ use Rattle.model.specs.Values as P
 use Rattle.model.specs.Values.{bound}
 use Rattle.model.proofs.ListFacts.{all_of_law, all_in, only_of, only_in}
 use Rattle.fact.specs.Places.{stamp_of, fact_of}
-use Rattle.model.proofs.Tests.{T_true}
+use Rattle.model.proofs.Tests.{by_eq, by_lt, T_true}
 use Rattle.rules.specs.Matching.{at, fits}
-use Rattle.rules.specs.Plan.{Part, body_fact, variable, Mode, every, enough, once, look, finds, Step}
+use Rattle.rules.specs.Plan.{Part, body_fact, variable, Step}
 use Rattle.rules.specs.Patterns.{Pattern, Frame}
 use Rattle.rules.specs.Cond.{upto, single, too_new, may, body_row, hold, row_of, places_of, is_late, carried, source_of}
-use Rattle.rules.specs.Valid.{marked, exprs_of, There, Testable, Newly, after}
+use Rattle.rules.specs.Valid.{marked, exprs_of, There, Testable, Newly}
 use Rattle.rules.specs.Proper.{HasAll}
-use Rattle.rules.proofs.MatchFacts.{Under, Ground, row_on, row_bound, Fitted, fits_of}
+use Rattle.rules.proofs.MatchFacts.{Under, under_refl, Ground, row_on, row_bound, Fitted, fits_of}
 use Rattle.rules.proofs.KindFacts.{upto_of}
 use Rattle.rules.proofs.ExtendFacts.{L, In, Over, Binds, Fair, fair_on, unless_of}
 use Rattle.rules.proofs.TestFacts.{passes_same, told_bound}
-use Rattle.rules.proofs.Following.{follow_of, onward}
+use Rattle.rules.proofs.Following.{follow_of}
 
 -- an entry is too new only for a fact before the one that has its entry, and only if it is of that entry's round
 pub not_new : (skip last i : ℕ) (q : List ℕ) → (i < skip → stamp_of q ≢ last) → too_new skip last i q ≡ false
 unfolding too_new
-not_new skip last i q h = go (ltb i skip) refl
-  where
-    go : (b : Bool) → ltb i skip ≡ b → cond b (eqb (stamp_of q) last) false ≡ false
-    go true e = ne_eqb (stamp_of q) last (h (ltb-true i skip e))
-    go false e = refl
+not_new skip last i q h = by_lt i skip (λ l. rw (lt-ltb i skip l) (ne_eqb (stamp_of q) last (h l))) (λ l. rw (le-ltb i skip l) refl)
 
 -- ---- which variables are bound
 
@@ -51,11 +46,10 @@ pub marks_row : (es : List Expr) {β τ : List ℕ} → Marks β τ → ((v : �
 marks_row [] b h = b
 marks_row (con c ∷ es) b h = marks_row es b (λ v m. h v (Memᴰ.tail m))
 marks_row (today ∷ es) b h = marks_row es b (λ v m. h v (Memᴰ.tail m))
-marks_row (var w ∷ es) {β} {τ} b h = marks_row es (record { of = λ v z. go v z (ℕ_discrete v w) }) (λ v m. h v (Memᴰ.tail m))
+marks_row (var w ∷ es) {β} {τ} b h = marks_row es (record { of = other }) (λ v m. h v (Memᴰ.tail m))
   where
-    go : (v : ℕ) → at τ v ≡ unbound → Dec (v ≡ w) → at (set β w 0) v ≡ unbound
-    go v z (yes q) = absurd (h v (Memᴰ.head (ap var q)) z)
-    go v z (no q) = get_or-set_other β w v 0 unbound q ∙ b.of v z
+    other : (v : ℕ) → at τ v ≡ unbound → at (set β w 0) v ≡ unbound
+    other v z = by_eq v w (λ q. absurd (h v (Memᴰ.head (ap var q)) z)) (λ q. get_or-set_other β w v 0 unbound q ∙ b.of v z)
 
 pub marks_on : {β θ τ : List ℕ} → Marks β θ → Under θ τ → Marks β τ
 marks_on {β} {θ} {τ} b u = record { of = λ v z. b.of v (⊎_elim (λ y. y) (λ (y : at θ v ≡ at τ v). y ∙ z) (u.of v)) }
@@ -106,7 +100,7 @@ module _ {F : Frame} {cs : List Constant} {ks : List ℕ} {t : L} (S : Search F 
   places (variable v) y m =
       let c = Memᴰ.of_map single (upto 0 (length F.kinds)) m in
       let u = upto_of (length F.kinds) 0 c.0 c.1 in
-      subst Ground c.2 ((λ z. let h : c.0 < 0 + length F.kinds = u.1 in omega (arith, few)), tt)
+      subst Ground c.2 (λ z. let e = Memᴰ.eq_of_singleton z in let h : c.0 < 0 + length F.kinds = u.1 in omega (arith, few))
 
   pub has : (part : Part) (θ : List ℕ) → There p part → length θ ≡ 8 → HasAll (length θ) (row_of F part)
   has (body_fact i) θ h l = subst (λ (n : ℕ). HasAll n (body_row F i)) (sym l) (S.rows i h)
@@ -185,29 +179,17 @@ module _ {F : Frame} {cs : List Constant} {ks : List ℕ} {t : L} (S : Search F 
   pub hold_in : (θ is : List ℕ) → ((i : ℕ) → Memᴰ i is → Passes θ i) → hold F is θ ≡ true
   hold_in θ is h = T_true _ (all_in (λ (i : ℕ). P.passes F.world θ (p.test i)) is (λ i m. subst T (sym (h i m)) tt))
 
-  -- ---- after a step of some mode
+  -- ---- after a step, as it finds or only looks
 
   module _ {s : Step} {β θ τ y : List ℕ} (c : Carries s θ τ y) (b : Marks β θ) (a : Fair S.over θ) where
-    pub on_marks : (m : Mode) → Marks (after p m s.part β) (onward m θ τ)
-    on_marks every = marks c b
-    on_marks enough = marks c b
-    on_marks once = marks c b
-    on_marks look = b
+    pub on_marks : (f : Bool) → Marks (cond f (marked β (exprs_of p s.part)) β) (cond f τ θ)
+    on_marks true = marks c b
+    on_marks false = b
 
-    pub on_fair : (m : Mode) → Fair S.over (onward m θ τ)
-    on_fair every = fair_on S.over c.fitted a
-    on_fair enough = fair_on S.over c.fitted a
-    on_fair once = fair_on S.over c.fitted a
-    on_fair look = a
+    pub on_fair : (f : Bool) → Fair S.over (cond f τ θ)
+    on_fair true = fair_on S.over c.fitted a
+    on_fair false = a
 
-    pub on_under : (m : Mode) → Under θ (onward m θ τ)
-    on_under every = c.fitted.under
-    on_under enough = c.fitted.under
-    on_under once = c.fitted.under
-    on_under look = record { of = λ v. inr refl }
-
-  pub on_found : (m : Mode) (θ τ : List ℕ) → finds m ≡ true → onward m θ τ ≡ τ
-  on_found every θ τ e = refl
-  on_found enough θ τ e = refl
-  on_found once θ τ e = refl
-  on_found look θ τ e = absurd (true≢false (sym e))
+    pub on_under : (f : Bool) → Under θ (cond f τ θ)
+    on_under true = c.fitted.under
+    on_under false = under_refl θ

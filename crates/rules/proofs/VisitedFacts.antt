@@ -1,21 +1,21 @@
 -- Along a plan that is right, a step carries a binding on by an entry exactly if the match fits and every constraint whose variables are all bound holds:
 -- it tests those whose last variable it binds, and the others held before. So the search comes to bindings that are carried, and to no others.
-use mathlib.Core.Path.{◌≡◌, refl, sym, ap, subst, ◌∙◌}
+use mathlib.Core.Path.{◌≡◌, refl, sym, subst, ◌∙◌}
 use mathlib.Core.Logic.{◌⊎◌, inl, inr, ⊎_elim, ◌↔◌}
-use mathlib.Core.Bool.{Bool, true, false, true≢false}
+use mathlib.Core.Bool.{Bool, true, false, cond}
 use mathlib.Core.Option.{some}
 use mathlib.Core.List.Memᴰ
-use mathlib.Core.List.{List, [], ◌∷◌, ◌++◌, Memᴰ}
+use mathlib.Core.List.{List, [], ◌∷◌, Memᴰ}
 use Prim.Native.Nat.{ℕ}
-use native.Mathlib.Decide.{ℕ_discrete}
 use lib.ListN.{length}
 use Rattle.model.specs.Limits.{unbound}
 use Rattle.model.specs.Lists.{each}
-use Rattle.model.specs.Syntax.{var, Constraint, Constant}
-use Rattle.model.specs.Values as P
+use Rattle.model.specs.Syntax.{var, Constant}
 use Rattle.model.proofs.ListFacts.{each_of}
 use Rattle.constraints.specs.Told.{told_both}
-use Rattle.rules.specs.Matching.{at, fits, first_of, or_next}
+use Rattle.std.proofs.lemmas.Bool.{cases_Bool}
+use Rattle.model.proofs.Tests.{by_eq}
+use Rattle.rules.specs.Matching.{at, fits}
 use Rattle.rules.specs.Plan.{Part, Mode, every, enough, once, look, finds, Step}
 use Rattle.rules.specs.Patterns.{Pattern, Frame}
 use Rattle.rules.specs.Cond.{may, row_of, places_of, source_of, hold, go_on, carried, search, head_entry, unbound8}
@@ -23,16 +23,12 @@ use Rattle.rules.specs.Valid.{marked, exprs_of, Newly, Exactly, after, Right, St
 use Rattle.rules.specs.Searching.{Match, Tested, Offered, Next, Carried, further, Fits, Goes, all, first_found, first, looked, Visits, here, step}
 use Rattle.rules.proofs.MatchFacts.{Fitted, fits_of}
 use Rattle.rules.proofs.ExtendFacts.{L, In, Fair}
-use Rattle.rules.proofs.TestFacts.{passes_same, told_bound, told_in}
-use Rattle.rules.proofs.Following.{onward}
+use Rattle.rules.proofs.TestFacts.{passes_same, told_bound}
+use Rattle.rules.proofs.Following.{onward, first_that}
 use Rattle.rules.proofs.StepFacts.{Marks, Search, places, has, of_row, carried_of, carried_by_law, part_marks, hold_of, hold_in}
-use Rattle.rules.proofs.MarkFacts.{marked_long, marked_grows, marked_in, told_grows}
+use Rattle.rules.proofs.MarkFacts.{marked_long, marked_grows, marked_in, told_grows, told_up}
 use Rattle.rules.proofs.ModeFacts.{small}
 use Rattle.rules.proofs.CarriedFacts.{carried_fits}
-
--- what is told under fewer marks is told under more
-told_up : {β γ : List ℕ} → Marks β γ → (c : Constraint) → told_both β c ≡ true → told_both γ c ≡ true
-told_up {β} {γ} b c e = told_in γ c (λ v m z. told_bound β c e v m (b.of v z))
 
 -- ---- what a step goes on with
 
@@ -40,31 +36,16 @@ told_up {β} {γ} b c e = told_in γ c (λ v m z. told_bound β c e v m (b.of v 
 pub goes_of : {go : List ℕ → L} {θ : List ℕ} {F : Frame} {t : L} {m : Mode} {τs : L} {τ : List ℕ} → Goes F t go θ m τs τ
     → (σ : List ℕ) × In σ τs × (τ ≡ onward m θ σ)
 goes_of (all {τ = τ} m) = (τ, m, refl)
-goes_of (first_found before after {τ} e) = (τ, later before, refl)
-  where
-    later : (l : L) → In τ (l ++ τ ∷ after)
-    later [] = Memᴰ.head refl
-    later (x ∷ l) = Memᴰ.tail (later l)
+goes_of (first_found before after {τ} e) = (τ, Memᴰ.append_right before (Memᴰ.head refl), refl)
 goes_of (first {τ = τ}) = (τ, Memᴰ.head refl, refl)
 goes_of (looked {τ = τ}) = (τ, Memᴰ.head refl, refl)
 
 -- what is given comes of a binding that it goes on with
 module _ (F : Frame) (t : L) (go : List ℕ → L) (θ : List ℕ) where
-  found : (l : L) {r : List ℕ} → In r (first_of go l)
-      → (before after : L) × (τ : List ℕ) × (before ++ τ ∷ after ≡ l) × (each before go ≡ []) × In r (go τ)
-  found [] m = absurd (Memᴰ.not-nil m)
-  found (x ∷ l) {r} m = by (go x) refl m (found l)
-    where
-      by : (k : L) → go x ≡ k → In r (or_next k (first_of go l))
-          → (In r (first_of go l) → (before after : L) × (τ : List ℕ) × (before ++ τ ∷ after ≡ l) × (each before go ≡ []) × In r (go τ))
-          → (before after : L) × (τ : List ℕ) × (before ++ τ ∷ after ≡ x ∷ l) × (each before go ≡ []) × In r (go τ)
-      by [] q m ih = let s = ih m in (x ∷ s.0, s.1, s.2, ap (◌∷◌ x) s.3, ap (λ (k : L). k ++ each s.0 go) q ∙ s.4, s.5)
-      by (c ∷ k) q m ih = ([], l, x, refl, refl, subst (In r) (sym q) m)
-
   pub goes_on_law : (m : Mode) (τs : L) {r : List ℕ} → In r (go_on m go θ τs) → (τ : List ℕ) × Goes F t go θ m τs τ × In r (go τ)
   unfolding go_on
   goes_on_law every τs i = let s = each_of go τs i in (s.0, all s.1, s.2)
-  goes_on_law enough τs i = let s = found τs i in (s.2, subst (λ (l : L). Goes F t go θ enough l s.2) s.3 (first_found s.0 s.1 s.4), s.5)
+  goes_on_law enough τs i = let s = first_that go τs i in (s.2, subst (λ (l : L). Goes F t go θ enough l s.2) s.3 (first_found s.0 s.1 s.4), s.5)
   goes_on_law once [] i = absurd (Memᴰ.not-nil i)
   goes_on_law once (τ ∷ τs) i = (τ, first, i)
   goes_on_law look [] i = absurd (Memᴰ.not-nil i)
@@ -82,11 +63,7 @@ module _ {F : Frame} {cs : List Constant} {ks : List ℕ} {t : L} (S : Search F 
     pub back : Marks θ β
 
   pub fair : {ms : List Match} {θ : List ℕ} → Fits F t ms θ → Fair S.over θ
-  fair {ms} {θ} f = record { eight = f.eight; kinds = λ v l. go v (ℕ_discrete (at θ v) unbound) }
-    where
-      go : (v : ℕ) → Dec (at θ v ≡ unbound) → (at θ v ≡ unbound) ⊎ (may F v (at θ v) ≡ true)
-      go v (yes z) = inl z
-      go v (no n) = inr (f.kinds v n)
+  fair {θ = θ} f = record { eight = f.eight; kinds = λ v l. by_eq (at θ v) unbound inl (λ n. inr (f.kinds v n)) }
 
   -- ---- one match more
 
@@ -124,15 +101,13 @@ module _ {F : Frame} {cs : List Constant} {ks : List ℕ} {t : L} (S : Search F 
     -- the constraints whose last variable is bound by it hold exactly if all that are told do
     module _ (is : List ℕ) (x : Exactly p (Newly p β γ) is) where
       pub tested_of : hold F is σ ≡ true → Tested F t σ
-      tested_of h i l d = go (told_both θ (p.test i)) refl
-        where
-          go : (b : Bool) → told_both θ (p.test i) ≡ b → P.passes F.world σ (p.test i) ≡ true
-          go true q =
-              sym (passes_same F.world (p.test i) θ σ
-              (λ v m. ⊎_elim (λ (z : at θ v ≡ unbound). absurd (told_bound θ (p.test i) q v m z)) (λ z. z) (fitted.under.of v)))
-              ∙ (carried_fits S A.carried).1 i l q
-          go false q =
-              hold_of S σ is h i (x.1 i (record { there = l; before = told_grows A.marks (p.test i) q; now = told_up back_now (p.test i) d }))
+      tested_of h i l d =
+          ⊎_elim
+          (λ q. sym (passes_same F.world (p.test i) θ σ
+          (λ v m. ⊎_elim (λ (z : at θ v ≡ unbound). absurd (told_bound θ (p.test i) q v m z)) (λ z. z) (fitted.under.of v)))
+          ∙ (carried_fits S A.carried).1 i l q)
+          (λ q. hold_of S σ is h i (x.1 i (record { there = l; before = told_grows A.marks (p.test i) q; now = told_up back_now (p.test i) d })))
+          (cases_Bool (told_both θ (p.test i)))
 
       pub tested_in : Tested F t σ → hold F is σ ≡ true
       tested_in h = hold_in S σ is (λ i m. let n = x.0 i m in h i n.there (told_up marks_now (p.test i) n.now))
@@ -147,35 +122,22 @@ module _ {F : Frame} {cs : List Constant} {ks : List ℕ} {t : L} (S : Search F 
     )
 
     -- what is matched after it
-    abbrev matched : Mode → List ℕ → List Match
-    matched every y = (s.part, y) ∷ ms
-    matched enough y = (s.part, y) ∷ ms
-    matched once y = (s.part, y) ∷ ms
-    matched look y = ms
+    abbrev matched : Bool → List ℕ → List Match
+    matched f y = cond f ((s.part, y) ∷ ms) ms
 
-    at_on : {y σ : List ℕ} → Next F t θ s.part y σ → (m : Mode) → At (after p m s.part β) (matched m y) (onward m θ σ)
-    at_on n every = at_next A n.offered n.fit n.tested
-    at_on n enough = at_next A n.offered n.fit n.tested
-    at_on n once = at_next A n.offered n.fit n.tested
-    at_on n look = A
+    at_on : {y σ : List ℕ} → Next F t θ s.part y σ → (f : Bool) → At (cond f (marked β (exprs_of p s.part)) β) (matched f y) (cond f σ θ)
+    at_on n true = at_next A n.offered n.fit n.tested
+    at_on n false = A
 
-    kept : (m : Mode) (y : List ℕ) {x : Match} → Memᴰ x ms → Memᴰ x (matched m y)
-    kept every y k = Memᴰ.tail k
-    kept enough y k = Memᴰ.tail k
-    kept once y k = Memᴰ.tail k
-    kept look y k = k
-
-    found_here : (m : Mode) (y : List ℕ) → finds m ≡ true → Memᴰ (s.part, y) (matched m y)
-    found_here every y e = Memᴰ.head refl
-    found_here enough y e = Memᴰ.head refl
-    found_here once y e = Memᴰ.head refl
-    found_here look y e = absurd (true≢false (sym e))
+    kept : (f : Bool) (y : List ℕ) {x : Match} → Memᴰ x ms → Memᴰ x (matched f y)
+    kept true y k = Memᴰ.tail k
+    kept false y k = k
 
     pub record Went (τ : List ℕ) : Type 0 where
       pub by : List ℕ
-      pub now : At (after p s.mode s.part β) (matched s.mode by) τ
-      pub old : {x : Match} → Memᴰ x ms → Memᴰ x (matched s.mode by)
-      pub new : finds s.mode ≡ true → Memᴰ (s.part, by) (matched s.mode by)
+      pub now : At (after p s.mode s.part β) (matched (finds s.mode) by) τ
+      pub old : {x : Match} → Memᴰ x ms → Memᴰ x (matched (finds s.mode) by)
+      pub new : finds s.mode ≡ true → Memᴰ (s.part, by) (matched (finds s.mode) by)
 
     pub goes_at : {τ : List ℕ} → Goes F t (search F t ss) θ s.mode (each (source_of F t s.part) (carried F s θ)) τ → Went τ
     goes_at {τ} g =
@@ -184,9 +146,9 @@ module _ {F : Frame} {cs : List Constant} {ks : List ℕ} {t : L} (S : Search F 
         let o : Offered F t s.part y.0 = record { there = w.there; among = y.1; late = (carried_of S s θ y.0 y.2).0 } in
         record {
           by = y.0;
-          now = subst (At (after p s.mode s.part β) (matched s.mode y.0)) (sym c.2) (at_on ((step_exact o).0 y.2) s.mode);
-          old = kept s.mode y.0;
-          new = found_here s.mode y.0;
+          now = subst (At (after p s.mode s.part β) (matched (finds s.mode) y.0)) (sym c.2) (at_on ((step_exact o).0 y.2) (finds s.mode));
+          old = kept (finds s.mode) y.0;
+          new = λ e. rw e (Memᴰ.head refl);
         }
 
   -- ---- all that the search comes to

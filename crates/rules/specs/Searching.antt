@@ -83,51 +83,41 @@ module _ (F : Frame) (t : List (List ℕ)) where
     step : {s : Step} {ss ss' : List Step} {θ τ θ' : List ℕ} → Goes (search F t ss) θ s.mode (each (source_of F t s.part) (carried F s θ)) τ
         → Visits ss τ ss' θ' → Visits (s ∷ ss) θ ss' θ'
 
-  -- a carried binding that is whole: it has the given match, every body fact is matched, every variable bound; and its head is r
-  pub record Ends (start : Match) (ms : List Match) (θ r : List ℕ) : Type 0 where
+  -- a carried binding that is whole: it has the matches that are given, every body fact is matched, every variable bound; and its head is r
+  pub record Ends (given ms : List Match) (θ r : List ℕ) : Type 0 where
     pub carried : Carried ms θ
-    pub given : Memᴰ start ms
+    pub has : (m : Match) → Memᴰ m given → Memᴰ m ms
     pub facts : (i : ℕ) → i < F.pattern.bodies → (y : List ℕ) × Memᴰ (body_fact i, y) ms
     pub whole : (v : ℕ) → v < 8 → F.pattern.kind v ≢ 0 → at θ v ≢ unbound
     pub head : r ≡ head_entry F θ
 
-  abbrev along : Plan
-  along = F.pattern.plan F.skip
+  -- along a plan, from the matches that are given
+  pub record CarriedAlong (plan : Plan) (given : List Match) : Type 0 where
+    -- "one without variables is tried before the first body fact": before anything is matched
+    pub begins : (hold F plan.ground_tests unbound8 ≡ true) ↔ Carried [] unbound8
+    -- wherever the search comes to, its binding is carried, and a step carries it on by y to just the binding to which it goes on so
+    pub visited : {τ θ : List ℕ} {ss : List Step} → Carried given τ → Visits plan.steps τ ss θ → (ms : List Match) × Carried ms θ
+    pub stepped : {τ θ : List ℕ} {s : Step} {ss : List Step} → Carried given τ → Visits plan.steps τ (s ∷ ss) θ
+        → {y σ : List ℕ} → Offered s.part y → Memᴰ σ (carried F s θ y) ↔ Next θ s.part y σ
 
-  -- q is the entry that body fact `skip` has already
-  abbrev given : List ℕ → Match
-  given q = (body_fact F.skip, q)
+  -- ---- with q, the entry that body fact `skip` has already
+
+  abbrev given : List ℕ → List Match
+  given q = (body_fact F.skip, q) ∷ []
 
   pub record CarriedExactly : Type 0 where
     -- "a partial binding is carried on exactly if what is matched so far fits and every constraint whose variables are all bound holds"
     pub fit : (ms : List Match) (θ : List ℕ) → Carried ms θ ↔ (Fits ms θ × Tested θ)
-    -- "one without variables is tried before the first body fact": what is tested before anything is matched, and with the given fact
-    pub begins : (hold F along.ground_tests unbound8 ≡ true) ↔ Carried [] unbound8
+    pub along : (q : List ℕ) → CarriedAlong (F.pattern.plan F.skip) (given q)
+    -- what is tested with the given fact
     pub starts : {q τ : List ℕ} → Offered (body_fact F.skip) q → fits (may F) unbound8 (row_of F (body_fact F.skip)) (fact_of q) ≡ some τ
-        → Carried [] unbound8 → (hold F along.first τ ≡ true) ↔ Carried (given q ∷ []) τ
-    -- wherever the search comes to, its binding is carried, and a step carries it on by y to just the binding to which it goes on so
-    pub visited : {q τ θ : List ℕ} {ss : List Step} → Carried (given q ∷ []) τ → Visits along.steps τ ss θ
-        → (ms : List Match) × Carried ms θ
-    pub stepped : {q τ θ : List ℕ} {s : Step} {ss : List Step} → Carried (given q ∷ []) τ → Visits along.steps τ (s ∷ ss) θ
-        → {y σ : List ℕ} → Offered s.part y → Memᴰ σ (carried F s θ y) ↔ Next θ s.part y σ
+        → Carried [] unbound8 → (hold F (F.pattern.plan F.skip).first τ ≡ true) ↔ Carried (given q) τ
     -- the heads that are listed are those of the carried bindings that are whole
     pub heads : {q r : List ℕ} → Offered (body_fact F.skip) q
         → Memᴰ r (cond_at F t (fact_of q)) ↔ ((ms : List Match) × (θ : List ℕ) × Ends (given q) ms θ r)
 
   -- ---- an assertion without a body: the search begins with nothing matched
 
-  abbrev alone : Plan
-  alone = F.pattern.plan 0
-
-  -- a carried binding that has every variable bound; and its head is r
-  pub record EndsAlone (ms : List Match) (θ r : List ℕ) : Type 0 where
-    pub carried : Carried ms θ
-    pub whole : (v : ℕ) → v < 8 → F.pattern.kind v ≢ 0 → at θ v ≢ unbound
-    pub head : r ≡ head_entry F θ
-
   pub record CarriedAlone : Type 0 where
-    pub begins : (hold F alone.ground_tests unbound8 ≡ true) ↔ Carried [] unbound8
-    pub visited : {θ : List ℕ} {ss : List Step} → Carried [] unbound8 → Visits alone.steps unbound8 ss θ → (ms : List Match) × Carried ms θ
-    pub stepped : {θ : List ℕ} {s : Step} {ss : List Step} → Carried [] unbound8 → Visits alone.steps unbound8 (s ∷ ss) θ
-        → {y σ : List ℕ} → Offered s.part y → Memᴰ σ (carried F s θ y) ↔ Next θ s.part y σ
-    pub heads : {r : List ℕ} → Memᴰ r (cond_first F) ↔ ((ms : List Match) × (θ : List ℕ) × EndsAlone ms θ r)
+    pub along : CarriedAlong (F.pattern.plan 0) []
+    pub heads : {r : List ℕ} → Memᴰ r (cond_first F) ↔ ((ms : List Match) × (θ : List ℕ) × Ends [] ms θ r)

@@ -6,16 +6,16 @@ use Rattle.lookup.proofs.Accepted.{verbs_laid, none_refused}
 use Rattle.lookup.proofs.verbs.Goals as goal
 
 pub shared_ref_as_front-lay : goal.shared_ref_as_front-lay
-shared_ref_as_front-lay c = (verbs_laid c.args.policy.now c.in-Ok.index c.in-Ok.ensures (λ i. omega (arith, c.type_inv.policy i))).few
+shared_ref_as_front-lay c = (verbs_laid c.args.policy.now c.read.new.index c.in-Ok.ensures (λ i. omega (arith, c.type_inv.policy i))).few
 
 pub lay-requires : goal.lay-requires
 lay-requires c =
-    let known = verbs_laid c.args.policy.now c.in-Ok.index c.in-Ok.ensures (λ i. omega (arith, c.type_inv.policy i)) in
-    (known.near, omega (arith, known.few, length-take c.in-Ok.index.verbs c.in-Ok.index.verb_at))
+    let known = verbs_laid c.args.policy.now c.read.new.index c.in-Ok.ensures (λ i. omega (arith, c.type_inv.policy i)) in
+    (known.near, omega (arith, known.few, length-take c.read.new.index.verbs c.read.new.index.verb_at))
 
 pub returns-in-Ok : goal.returns-in-Ok
 returns-in-Ok c =
-    let known = verbs_laid c.args.policy.now c.in-Ok.index c.in-Ok.ensures (λ i. omega (arith, c.type_inv.policy i)) in
+    let known = verbs_laid c.args.policy.now c.read.new.index c.in-Ok.ensures (λ i. omega (arith, c.type_inv.policy i)) in
     record { count = c.lay.ensures.count ∙ ap length known.front; written = c.lay.ensures.written ∙ ap (λ l. laid l c.args.offsets.now) known.front }
 
 pub returns-in-Err : goal.returns-in-Err
