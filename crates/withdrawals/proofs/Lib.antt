@@ -3,3 +3,4 @@ pub mod Meaning
 pub mod Leaving
 pub mod Holding
 pub mod Sought
+pub mod Picked

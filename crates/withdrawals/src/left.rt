@@ -1,12 +1,12 @@
 // Which assertions are left: those that no entry removes.
-ghost use Rattle.std.specs.Prelude.{◌≡◌, ◌&&◌, not, ◌+◌, ◌-◌, ◌*◌, ◌<◌, ◌≤◌, length, take, eqb, ltb};
+ghost use Rattle.std.specs.Prelude.{◌≡◌, ◌&&◌, not, ℕ, ◌+◌, ◌-◌, ◌*◌, ◌<◌, ◌≤◌, length, take, get_or, replicate, eqb, ltb};
 ghost use Rattle.model.specs.Lists.{any, keep};
 ghost use Rattle.model.specs.Limits.{today_code, first_variable};
 ghost use Rattle.wire.specs.Budget.{farthest};
 ghost use Rattle.constraints.specs.Standing.{world_of};
 ghost use Rattle.model.specs.Bytes.{byte_at};
 ghost use Rattle.model.specs.Entries.{withdrawal_at, withdrawal_end};
-ghost use Rattle.withdrawals.specs.Left.{named, entries_at, stays_at, Lent};
+ghost use Rattle.withdrawals.specs.Left.{named, entries_at, stays_at, picked, Lent, Listed};
 ghost use Rattle.withdrawals.specs.Sought.{holds_at, holding_at, named_at, unnamed_at, Within, buckets, bucket_of, bucket_at};
 
 use super::chained::Chained;
@@ -126,19 +126,63 @@ impl Chained<'_> {
         false
     }
 
-    // None is for the assertion whose issuer stands at `issuer`.
-    fn unnamed(&self, policy: &[u8], issuer: usize) -> bool
-        requires { issuer + 8 ≤ farthest }
-        ensures { result ≡ unnamed_at self.now.bytes.now self.now.ats.now policy.now (issuer - 6) issuer }
+    // None is for the assertion whose item and issuer stand there.
+    fn unnamed(&self, policy: &[u8], item: usize, issuer: usize) -> bool
+        requires { (item + 8 ≤ farthest) × (issuer + 8 ≤ farthest) }
+        ensures { result ≡ unnamed_at self.now.bytes.now self.now.ats.now policy.now item issuer }
     {
-        let item = issuer.saturating_sub(assertions::ISSUER);
         let serial = wire::u32_or(policy, item + assertions::SERIAL);
         !self.is_named(wire::u16_or(policy, issuer), serial)
     }
+
+    // Of the assertions whose items and issuers stand at these offsets those for which there is none, in their order: their issuers' offsets come to the front,
+    // and this is how many they are.
+    fn pick(&self, issuers: &mut [usize], items: &[usize], policy: &[u8]) -> usize
+        requires { Listed items.now issuers.old × ((i : ℕ) → i < length issuers.old → get_or issuers.old i 0 + 8 ≤ farthest) }
+        ensures { (result ≤ length issuers.old)
+            × (take result issuers.new ≡ picked (unnamed_at self.now.bytes.now self.now.ats.now policy.now) items.now issuers.old) }
+    {
+        let mut k = 0;
+        // by number: the front is written meanwhile
+        for i in 0..issuers.len() {
+            let issuer = issuers[i];
+            if self.unnamed(policy, items[i], issuer) {
+                issuers[k] = issuer;
+                k += 1;
+            }
+        }
+        k
+    }
 }
 
-// Of the assertions whose issuers stand at these offsets those that are left, in their order: the offsets come to the front, and this is how many they are.
-// Nothing is done where there are no entries, as in most calls.
+// Where the entries stand that remove anything, in the room, and their chains in the links.
+fn chained<'a>(
+    room: &'a mut [usize],
+    links: &'a mut [u16],
+    values: &Values,
+    withdrawals: &'a [u8],
+    entries: usize,
+) -> Chained<'a>
+    requires { (entries ≤ 256) × (length room.old ≡ 256) × (links.old ≡ replicate 513 0) }
+    ensures { (result.bytes.now ≡ withdrawals.now) × (result.ats.now ≡ holding_at (world_of values.now) withdrawals.now entries 7) }
+{
+    let n = holding(room, values, withdrawals, entries);
+    let ats = &room[..n];
+    chains::link(
+        links,
+        BUCKETS,
+        ats.len(),
+        |i| bucket_at(withdrawals, ats[i]),
+    );
+    Chained {
+        bytes: withdrawals,
+        ats,
+        links,
+    }
+}
+
+// Of the assertions whose issuers stand at these offsets, each six bytes into its item, those that are left, in their order: the offsets come to the front, and
+// this is how many they are. Nothing is done where there are no entries, as in most calls.
 #[inline(never)]
 #[tactic(auto, using(crate::proofs::Holding::stays_same))]
 pub fn left(issuers: &mut [usize], values: &Values, withdrawals: &[u8], entries: usize) -> usize
@@ -150,19 +194,33 @@ pub fn left(issuers: &mut [usize], values: &Values, withdrawals: &[u8], entries:
         return issuers.len();
     }
     let mut room = [0usize; limits::WITHDRAWALS];
-    let n = holding(&mut room, values, withdrawals, entries);
-    let ats = &room[..n];
     let mut links = [0u16; LINKS];
-    chains::link(
-        &mut links,
-        BUCKETS,
-        ats.len(),
-        |i| bucket_at(withdrawals, ats[i]),
-    );
-    let chained = Chained {
-        bytes: withdrawals,
-        ats,
-        links: &links,
-    };
-    reach::keep(issuers, |at| chained.unnamed(values.policy, at))
+    let chained = chained(&mut room, &mut links, values, withdrawals, entries);
+    reach::keep(
+        issuers,
+        |at| chained.unnamed(values.policy, at.saturating_sub(assertions::ISSUER), at),
+    )
+}
+
+// The same by items and issuers, in the same order: a serial is read in its item, wherever the issuer stands in it. So the policy's reader alone knows how far
+// an issuer is from where its item begins.
+#[inline(never)]
+pub fn left_by_items(
+    issuers: &mut [usize],
+    items: &[usize],
+    values: &Values,
+    withdrawals: &[u8],
+    entries: usize,
+) -> usize
+    requires { Lent issuers.old entries × Listed items.now issuers.old }
+    ensures { (result ≤ length issuers.old) × (length issuers.new ≡ length issuers.old) × (take result issuers.new
+        ≡ picked (stays_at (world_of values.now) (entries_at withdrawals.now entries 7) values.now.policy.now) items.now issuers.old) }
+{
+    if entries == 0 {
+        return issuers.len();
+    }
+    let mut room = [0usize; limits::WITHDRAWALS];
+    let mut links = [0u16; LINKS];
+    let chained = chained(&mut room, &mut links, values, withdrawals, entries);
+    chained.pick(issuers, items, values.policy)
 }
