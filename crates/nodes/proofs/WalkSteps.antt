@@ -1,12 +1,19 @@
 -- The walk over a tree, one step on.
-use Rattle.std.proofs.Common.{◌≡◌, List, ℕ, ◌+◌, ◌-◌, ◌≤◌, ◌<◌, ◌⊎◌, inl, inr, Some, None}
+use Rattle.std.proofs.Common.{◌≡◌, refl, List, ℕ, ◌+◌, ◌-◌, ◌≤◌, ◌<◌, ◌⊎◌, inl, inr, Some, None}
+use Rattle.model.specs.Syntax.{Nodes, end, more}
 use Rattle.model.specs.Bytes.{byte_at}
 use Rattle.model.specs.Readings.{expr_at, constraint_at}
 use Rattle.phrases.specs.Phrases.{fact_by}
 use Rattle.nodes.specs.Tree.{shape_at, shape_in, end_in, tree_in, nodes_in}
-use Rattle.nodes.specs.Walk.{Steps, walked, all_walked}
+use Rattle.nodes.specs.Walk.{Steps, walked, all_walked, Settled}
 use Rattle.nodes.specs.declared.shape.Shape.TheVariants.{Says, Test, All, Any, Not, Exists}
 use Rattle.nodes.proofs.TreeSteps.{nodes_done, nodes_next, tree_none, tree_says, tree_test, tree_all, tree_any, tree_not, tree_exists}
+
+-- a state that no node changes is the state after any nodes
+settled_all : {S : Type 0} (w : Steps S) (m : S) → Settled w m → (ns : Nodes) → all_walked w ns m ≡ m
+unfolding all_walked
+settled_all w m h end = refl
+settled_all w m h (more n ns) = rw (h n) (settled_all w m h ns)
 
 module _ {S : Type 0} (w : Steps S) (sg s : List ℕ) where
   module _ (d at : ℕ) (m : S) where
@@ -49,4 +56,8 @@ module _ {S : Type 0} (w : Steps S) (sg s : List ℕ) where
     unfolding all_walked
     walk_next h = rw (nodes_next (tree_in sg s d) (end_in sg s d) n i at h)
 
-pub ruleset walk_steps = (walk_none, walk_says, walk_test, walk_inside, walk_not, walk_exists, walk_done, walk_next)
+    -- and after a node with such a state
+    pub walk_settled : i < n → Settled w (walked w (tree_in sg s d at) m) → all_walked w (nodes_in sg s d (n - i) at) m ≡ walked w (tree_in sg s d at) m
+    walk_settled h f = rw (walk_next h) (settled_all w (walked w (tree_in sg s d at) m) f (nodes_in sg s d (n - (i + 1)) (end_in sg s d at)))
+
+pub ruleset walk_steps = (walk_none, walk_says, walk_test, walk_inside, walk_not, walk_exists, walk_done, walk_next, walk_settled)

@@ -1,5 +1,5 @@
 -- A walk over a request's tree, which does something to a state at each node, in the order of the bytes.
-use Rattle.std.specs.Prelude.{ℕ}
+use Rattle.std.specs.Prelude.{ℕ, ◌≡◌}
 use Rattle.model.specs.Syntax.{Expr, Fact, Constraint, Node, Nodes, says, test, all_of, any_of, non, exists, end, more}
 
 -- what is done at a says node, at a constraint, and before and after the node of an exists; after it, with the state of before
@@ -22,3 +22,7 @@ module _ {S : Type 0} (w : Steps S) where
     pub all_walked : Nodes → S → S
     all_walked end m = m
     all_walked (more n ns) m = all_walked ns (walked n m)
+
+  -- no node changes this state
+  abbrev pub Settled : S → Type 0
+  Settled m = (n : Node) → walked n m ≡ m

@@ -1,10 +1,10 @@
 // One walk over a request's tree, whatever it does at a node.
-ghost use Rattle.std.specs.Prelude.{◌≡◌, ◌+◌, ℕ, ◌≤◌};
+ghost use Rattle.std.specs.Prelude.{◌≡◌, ◌+◌, ℕ, ◌≤◌, true};
 ghost use Rattle.model.specs.Readings.{expr_at, constraint_at};
 ghost use Rattle.phrases.specs.Phrases.{fact_by};
 ghost use Rattle.wire.specs.Budget.{longest};
 ghost use Rattle.nodes.specs.Tree.{tree_in, nodes_in};
-ghost use Rattle.nodes.specs.Walk.{Steps, walked, all_walked};
+ghost use Rattle.nodes.specs.Walk.{Steps, walked, all_walked, Settled};
 
 use super::shape::{Place, Shape};
 use super::tree::Tree;
@@ -34,6 +34,10 @@ pub trait Visit {
     // And after it, where `before` was the state.
     fn leave(&self, variable: usize, before: Self::State, state: Self::State) -> Self::State
         ensures { result ≡ (steps self.now).leave variable before state };
+
+    // Whether no node changes this state: the walk may end.
+    fn is_settled(&self, state: Self::State) -> bool
+        ensures { result ≡ true → Settled (steps self.now) state };
 }
 
 impl Tree<'_> {
@@ -85,6 +89,9 @@ impl Tree<'_> {
             // a local of its own: the check covers no array that is laid where an argument was
             let more = self.walk(visit, part, walked);
             walked = more;
+            if visit.is_settled(walked) {
+                return walked;
+            }
             at = self.node_end(part);
         }
         walked

@@ -77,6 +77,11 @@ impl Visit for Joining<'_> {
     fn leave(&self, _: usize, _: Marks, marks: Marks) -> Marks {
         marks
     }
+
+    #[inline(always)]
+    fn is_settled(&self, _: Marks) -> bool {
+        false
+    }
 }
 
 // The issuers of the node at a place.

@@ -9,7 +9,7 @@ use Rattle.model.specs.Requests.{free, free_all}
 use Rattle.model.specs.Safety.{binders, binders_all}
 use Rattle.phrases.specs.Marks.{marked}
 use Rattle.phrases.proofs.Sets.{marked_append}
-use Rattle.nodes.specs.Walk.{walked, all_walked}
+use Rattle.nodes.specs.Walk.{walked, all_walked, Settled}
 use Rattle.safety.specs.Safety.{taken}
 use Rattle.safety.specs.Walks.{free_steps, newly, binders_steps}
 
@@ -86,3 +86,7 @@ mutual
   binders_all_walked (more n ns) o =
       binders_all_walked ns (walked binders_steps n o) ∙ ap (option_and_then (taken (binders_all ns))) (binders_walked n o)
       ∙ both_taken (binders n) (binders_all ns) o
+
+-- once a number was not new, no node makes it so
+pub binders_settled : Settled binders_steps None
+binders_settled n = binders_walked n None

@@ -38,6 +38,11 @@ impl Visit for FreeVariables {
     fn leave(&self, variable: usize, before: Marks, marks: Marks) -> Marks {
         marks::with_mark(marks, variable, marks::mark_of(before, variable))
     }
+
+    #[inline(always)]
+    fn is_settled(&self, _: Marks) -> bool {
+        false
+    }
 }
 
 // The free variables of the node at a place.
@@ -70,6 +75,12 @@ impl Visit for Binders {
 
     fn leave(&self, _: usize, _: Option<Marks>, marks: Option<Marks>) -> Option<Marks> {
         marks
+    }
+
+    #[inline(always)]
+    #[tactic(auto, using(crate::proofs::WalkLaws::binders_settled))]
+    fn is_settled(&self, marks: Option<Marks>) -> bool {
+        marks.is_none()
     }
 }
 
