@@ -89,7 +89,7 @@ impl Tree<'_> {
     // Where n nodes end, the first of which stands at the place.
     #[cycle(node_end_nodes_end)]
     #[tactic(auto, using(crate::proofs::TreeSteps::end_steps))]
-    fn nodes_end(&self, n: usize, place: Place) -> usize
+    pub fn nodes_end(&self, n: usize, place: Place) -> usize
         ensures { result ≡ ends_by (end_in self.now.text.signatures.now self.now.text.bytes.now place.depth) n place.at }
     {
         let mut end = place.at;

@@ -5,10 +5,6 @@ use mathlib.Core.Path.{◌≡◌, refl, sym, ◌∙◌}
 use mathlib.Core.List.{List, [], ◌++◌}
 use lib.ListN.{length, take, drop}
 use lib.Seq.{length-take-le}
-use Rattle.slices.specs.Steps.{number_of}
-use Rattle.slices.specs.Sides.{side_of}
-use Rattle.slices.specs.declared.Refusal.{Refusal}
-use Rattle.slices.specs.declared.sides.Side.{Side}
 use Rattle.outcome.specs.Line.{text, decimal, decision_line, side_word, refusal_line, line_by, line_of}
 use Rattle.outcome.specs.Reported.{report_of}
 use Rattle.outcome.specs.Wrote.{Wrote}
@@ -75,11 +71,6 @@ pub deny_is : {a b c : List ℕ} {p q : ℕ} (o : Outcome) (facts rounds : ℕ) 
 unfolding line_of line_by
 deny_is o facts rounds e l v w = line_is o (decision_line (text "deny") facts rounds 0) (rw e) l
     (onto (λ x. decision_line x facts rounds 0) 96 v w (λ i. omega arith))
-
-pub refused_line : {a b : List ℕ} {r : ℕ} (o : Outcome) (side : Side) (why : Refusal) → o ≡ Outcome.Refused side why → length a ≡ 96
-    → Wrote a b 0 r 96 (refusal_line (number_of why.reason) (side_of side) why.place) → Line a b r o
-unfolding line_of line_by
-refused_line o side why e l w = line_is o (refusal_line (number_of why.reason) (side_of side) why.place) (rw e) l w
 
 pub facts_are : {a b : List ℕ} {r : ℕ} (o : Outcome) → o ≡ Outcome.TooManyFacts → length a ≡ 96 → Wrote a b 0 r 96 (refusal_line 8 0 0) → Line a b r o
 unfolding line_of line_by

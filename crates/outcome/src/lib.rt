@@ -4,6 +4,8 @@
 pub mod numbers;
 
 ghost use Rattle.std.specs.Prelude.{◌≡◌, [], ◌++◌, ◌+◌, ◌≤◌, ◌<◌, length, take, drop};
+ghost use Rattle.model.specs.Decision.{report, refusal};
+ghost use Rattle.slices.specs.Sides.{side_of};
 ghost use Rattle.outcome.specs.Line.{decimal, decision_line, side_word, refusal_line, line_of};
 ghost use Rattle.outcome.specs.Reported.{side_number, report_of};
 ghost use Rattle.outcome.specs.Wrote.{Wrote};
@@ -127,6 +129,16 @@ fn refusal(out: &mut [u8], number: u8, side: Option<Side>, place: usize) -> usiz
     word(out, end, b"\n")
 }
 
+// Writes the line of a refusal from the input, whichever its number, as `line` does.
+#[tactic(auto, unfolding(crate::specs::Line::line_of, crate::specs::Line::line_by))]
+pub fn refused_line(side: Side, number: u8, place: usize, out: &mut [u8; 96]) -> usize
+    ensures upper_bound { (result ≤ length out.new) × (result ≡ length (take result out.new)) }
+    ensures out_after { take result out.new ≡ line_of (report (refusal number (side_of side) place) 0 0 0 [] []) }
+    ensures out_unchanged { drop result out.new ≡ drop result out.old }
+{
+    refusal(out, number, Some(side), place)
+}
+
 // Writes the line of an outcome to the front of `out`, and answers how long it is. The first clause is for a caller who lends `out[..r]` on.
 pub fn line(outcome: Outcome, out: &mut [u8; 96]) -> usize
     ensures upper_bound { (result ≤ length out.new) × (result ≡ length (take result out.new)) }
@@ -142,7 +154,7 @@ pub fn line(outcome: Outcome, out: &mut [u8; 96]) -> usize
             let end = word(out, 0, b"deny");
             counted(out, end, facts, rounds, 0)
         }
-        Outcome::Refused(side, why) => refusal(out, why.reason.number(), Some(side), why.place),
+        Outcome::Refused(side, why) => refused_line(side, why.reason.number(), why.place, out),
         Outcome::TooManyFacts => refusal(out, FACTS, None, 0),
         Outcome::TooManyAnswers(_, _) => refusal(out, ANSWERS, None, 0),
     }

@@ -22,16 +22,24 @@ fn told(decision: u32, facts: usize, rounds: usize, answers: usize) -> Report
     }
 }
 
+// A refusal by its numbers, whichever they are: 8 and 9 are of no slice, and 9 has counts.
+pub fn refused_by(number: u8, side: u8, place: usize, facts: usize, rounds: usize) -> Report
+    requires { (facts < 4294967296) × (rounds < 4294967296) }
+    ensures { result ≡ numbers 0 number side place facts rounds 0 }
+{
+    Report {
+        refusal: number as u32,
+        side: side as u32,
+        place: place as u64,
+        ..told(0, facts, rounds, 0)
+    }
+}
+
 // A refusal from the input.
 pub fn refused(side: Side, why: Refusal) -> Report
     ensures { result ≡ numbers 0 (number_of why.reason) (side_of side) why.place 0 0 0 }
 {
-    Report {
-        refusal: why.reason.number() as u32,
-        side: side.number() as u32,
-        place: why.place as u64,
-        ..Report::default()
-    }
+    refused_by(why.reason.number(), side.number(), why.place, 0, 0)
 }
 
 // "the promises use a definition that gives this paper's number and values for each case of the enum"; a function and no `From`, which could ask nothing
@@ -43,13 +51,7 @@ pub fn in_numbers(outcome: Outcome) -> Report
         Outcome::Allow(facts, rounds, answers) => told(1, facts, rounds, answers),
         Outcome::Deny(facts, rounds) => told(2, facts, rounds, 0),
         Outcome::Refused(side, why) => refused(side, why),
-        Outcome::TooManyFacts => Report {
-            refusal: super::FACTS as u32,
-            ..Report::default()
-        },
-        Outcome::TooManyAnswers(facts, rounds) => Report {
-            refusal: super::ANSWERS as u32,
-            ..told(0, facts, rounds, 0)
-        },
+        Outcome::TooManyFacts => refused_by(super::FACTS, 0, 0, 0, 0),
+        Outcome::TooManyAnswers(facts, rounds) => refused_by(super::ANSWERS, 0, 0, facts, rounds),
     }
 }

@@ -84,11 +84,19 @@ impl Visit for Joining<'_> {
     }
 }
 
-// The issuers of the node at a place.
+// The marks with the issuers of the node at a place: what is in the set stays in it.
 #[tactic(auto, using(crate::proofs::IssuerSteps::issuers_walked))]
+pub fn with_issuers(kinds: &[u8], tree: &Tree, place: Place, marks: Marks) -> Marks
+    ensures { result ≡ marked (issuers (tree_in tree.now.text.signatures.now tree.now.text.bytes.now place.depth place.at)
+        (world_by kinds.now)) marks }
+{
+    tree.walk(&Joining { kinds }, place, marks)
+}
+
+// The issuers of the node at a place.
 pub fn issuers(kinds: &[u8], tree: &Tree, place: Place) -> Marks
     ensures { result ≡ marked (issuers (tree_in tree.now.text.signatures.now tree.now.text.bytes.now place.depth place.at)
         (world_by kinds.now)) (replicate 255 0) }
 {
-    tree.walk(&Joining { kinds }, place, [0; CONSTANTS])
+    with_issuers(kinds, tree, place, [0; CONSTANTS])
 }

@@ -1,7 +1,7 @@
 -- For each outcome, what was written is its line: the laws of `Lines`.
 use mathlib.Core.Path.{◌≡◌}
 use lib.ListN.{length}
-use Rattle.outcome.proofs.Lines.{allow_is, deny_is, refused_line, facts_are, answers_are}
+use Rattle.outcome.proofs.Lines.{allow_is, deny_is, facts_are, answers_are}
 use Rattle.outcome.proofs.line.Goals as goal
 
 pub returns-in-Allow : goal.returns-in-Allow
@@ -16,16 +16,10 @@ returns-in-Deny c =
     let w = deny_is c.args.outcome c.in-Deny.facts c.in-Deny.rounds c.in-Deny.is l c.word-end-in-Deny.ensures c.counted-in-Deny.ensures in
     record { upper_bound = w.0; out_after = w.1.0; out_unchanged = w.1.1 }
 
-pub returns-in-Refused : goal.returns-in-Refused
-returns-in-Refused c =
-    let l : length c.args.out.now ≡ 96 = c.told-out in
-    let w = refused_line c.args.outcome c.in-Refused.side c.in-Refused.why c.in-Refused.is l (rw c.number.ensures at c.refusal.ensures) in
-    record { upper_bound = w.0; out_after = w.1.0; out_unchanged = w.1.1 }
-
 pub returns-in-TooManyFacts : goal.returns-in-TooManyFacts
 returns-in-TooManyFacts c =
     let l : length c.args.out.now ≡ 96 = c.told-out in
-    let w = facts_are c.args.outcome c.in-TooManyFacts.is l c.refusal-in-TooManyFacts.ensures in
+    let w = facts_are c.args.outcome c.in-TooManyFacts.is l c.refusal.ensures in
     record { upper_bound = w.0; out_after = w.1.0; out_unchanged = w.1.1 }
 
 pub returns-in-TooManyAnswers : goal.returns-in-TooManyAnswers
