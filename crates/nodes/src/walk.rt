@@ -35,9 +35,13 @@ pub trait Visit {
     fn leave(&self, variable: usize, before: Self::State, state: Self::State) -> Self::State
         ensures { result ≡ (steps self.now).leave variable before state };
 
-    // Whether no node changes this state: the walk may end.
+    // Whether no node changes this state: the walk may end. A visit of which that is never known need not say so.
+    #[inline(always)]
     fn is_settled(&self, state: Self::State) -> bool
-        ensures { result ≡ true → Settled (steps self.now) state };
+        ensures { result ≡ true → Settled (steps self.now) state }
+    {
+        false
+    }
 }
 
 impl Tree<'_> {

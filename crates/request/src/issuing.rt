@@ -77,11 +77,6 @@ impl Visit for Joining<'_> {
     fn leave(&self, _: usize, _: Marks, marks: Marks) -> Marks {
         marks
     }
-
-    #[inline(always)]
-    fn is_settled(&self, _: Marks) -> bool {
-        false
-    }
 }
 
 // The marks with the issuers of the node at a place: what is in the set stays in it.

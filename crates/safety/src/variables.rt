@@ -38,11 +38,6 @@ impl Visit for FreeVariables {
     fn leave(&self, variable: usize, before: Marks, marks: Marks) -> Marks {
         marks::with_mark(marks, variable, marks::mark_of(before, variable))
     }
-
-    #[inline(always)]
-    fn is_settled(&self, _: Marks) -> bool {
-        false
-    }
 }
 
 // The free variables of the node at a place.
