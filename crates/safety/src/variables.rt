@@ -1,9 +1,10 @@
 // The free variables of a request's nodes, and the numbers that its exists nodes bind: two walks over the tree.
-ghost use Rattle.std.specs.Prelude.{◌≡◌};
+ghost use Rattle.std.specs.Prelude.{◌≡◌, true, is_none};
 ghost use Rattle.model.specs.Requests.{free};
 ghost use Rattle.model.specs.Safety.{binders};
 ghost use Rattle.phrases.specs.Marks.{none, marked};
 ghost use Rattle.nodes.specs.Tree.{tree_in};
+ghost use Rattle.nodes.specs.Walk.{Settled};
 ghost use Rattle.safety.specs.Walks.{free_steps, binders_steps};
 ghost use Rattle.safety.specs.Safety.{taken};
 
@@ -74,7 +75,10 @@ impl Visit for Binders {
 
     #[inline(always)]
     #[tactic(auto, using(crate::proofs::WalkLaws::binders_settled))]
-    fn is_settled(&self, marks: Option<Marks>) -> bool {
+    fn is_settled(&self, marks: Option<Marks>) -> bool
+        ensures settled { result ≡ true → Settled binders_steps marks }
+        ensures told { result ≡ is_none marks }
+    {
         marks.is_none()
     }
 }
